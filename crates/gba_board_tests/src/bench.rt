@@ -27,16 +27,17 @@ pub(crate) struct Seat {
 
 #[derive(Drop)]
 pub(crate) struct Bench {
-    board: Board,
+    pub board: Board,
 }
 
 /// A BIOS of this word and zeros.
 fn bios_of(alloc: Global, first: u32) -> Result<Bios, Fail> {
     let mut bytes = Vec::from_slice(alloc, &first.to_le_bytes())?;
-    for _ in bytes.len()..16_384 {
-        bytes.push(0)?;
+    bytes.resize(16_384, 0)?;
+    match Bios::check(bytes) {
+        Ok(bios) => Ok(bios),
+        Err(_) => Err("no BIOS")?,
     }
-    Ok(Bios::check(bytes).ok().ok_or("no BIOS")?)
 }
 
 /// How many bytes a memory has.
@@ -129,53 +130,18 @@ impl Bench {
         self.board.core.load(0, address, width, false)
     }
 
-    pub(crate) fn code(&mut self, address: u32, width: Width) -> u32 {
-        self.board.core.code(address, width)
+    /// What a write at an offset of the I/O registers costs.
+    pub(crate) fn store_io(&mut self, offset: u32, width: Width, value: u32) -> u32 {
+        self.store(0x0400_0000 | offset, width, value)
+    }
+
+    /// What an instruction in the BIOS reads at an offset of the I/O registers, and what that costs.
+    pub(crate) fn load_io(&mut self, offset: u32, width: Width) -> (u32, u32) {
+        self.load(0x0400_0000 | offset, width)
     }
 
     pub(crate) fn code_price(&self, address: u32, width: Width) -> u32 {
         self.board.core.code_price(address, width, false)
-    }
-
-    /// What is stored in a halfword of the I/O registers.
-    pub(crate) fn io_half(&self, offset: u32) -> u16 {
-        self.board.core.io_half(offset)
-    }
-
-    pub(crate) fn set_keys(&mut self, pressed: u16) {
-        self.board.core.set_keys(pressed);
-    }
-
-    pub(crate) fn begin(&mut self) {
-        self.board.core.begin();
-    }
-
-    pub(crate) fn wake(&mut self) {
-        self.board.core.wake();
-    }
-
-    pub(crate) fn halted(&self) -> bool {
-        self.board.core.devices().set().halted()
-    }
-
-    pub(crate) fn pending(&self) -> bool {
-        self.board.core.devices().set().pending()
-    }
-
-    pub(crate) fn master(&self) -> bool {
-        self.board.core.devices().set().master()
-    }
-
-    pub(crate) fn is_calm(&self) -> bool {
-        self.board.core.is_calm()
-    }
-
-    pub(crate) fn clock(&self) -> u64 {
-        self.board.core.clock()
-    }
-
-    pub(crate) fn place(&self) -> Position {
-        self.board.core.devices().place()
     }
 
     pub(crate) fn reference(&self, rt: &impl Abort, background: u32) -> Reference {
@@ -195,19 +161,10 @@ impl Bench {
         self.board.core.devices().tone(channel)
     }
 
-    pub(crate) fn sequencer(&self) -> u32 {
-        self.board.core.devices().sequencer()
-    }
-
     /// The bytes of a bank of the wave.
     pub(crate) fn wave_bank(&self, rt: &impl Abort, bank: u32) -> [u8; 16] {
         assert!(rt; bank < 2);
         self.board.core.devices().wave_bank(bank)
-    }
-
-    /// Does a unit of DMA, and answers how many cycles it takes.
-    pub(crate) fn dma_unit(&mut self) -> Option<u32> {
-        self.board.core.dma_unit()
     }
 
     /// How many units of a DMA channel are left.
@@ -226,30 +183,6 @@ impl Bench {
         self.board.core.devices().set().queue_current(queue)
     }
 
-    pub(crate) fn memory(&self, name: MemoryName) -> &[u8] {
-        self.board.core.memory(name)
-    }
-
-    pub(crate) fn frames(&self) -> &[u8] {
-        self.board.made.frames()
-    }
-
-    pub(crate) fn samples(&self) -> &[u8] {
-        self.board.made.samples()
-    }
-
-    pub(crate) fn words(&self) -> &[Transfer] {
-        self.board.words()
-    }
-
-    pub(crate) fn counts(&self) -> Counts {
-        self.board.counts()
-    }
-
-    pub(crate) fn outgoing(&self) -> Option<Signal> {
-        self.board.outgoing()
-    }
-
     /// The mode that a player is known to be in.
     pub(crate) fn known(&self, rt: &impl Abort, player: u32) -> LinkMode {
         assert!(rt; player < 4);
@@ -260,14 +193,19 @@ impl Bench {
         *self.board.core.serial()
     }
 
+    /// A line that is drawn of the present frame.
+    fn line(&self, rt: &impl Abort, line: u32) -> [u8; 480] {
+        let mut bytes = [0; 480];
+        assert!(rt; line < self.board.core.lines_drawn());
+        self.board.core.line(line, &mut bytes);
+        bytes
+    }
+
     /// The lines that are drawn of the present frame.
     pub(crate) fn lines(&self, rt: &impl Abort, alloc: Global) -> Result<Vec<[u8; 480]>, Fail> {
         let mut lines = Vec::new(alloc);
         for line in 0..self.board.core.lines_drawn() {
-            let mut bytes = [0; 480];
-            assert!(rt; line < self.board.core.lines_drawn());
-            self.board.core.line(line, &mut bytes);
-            lines.push(bytes)?;
+            lines.push(self.line(rt, line))?;
         }
         Ok(lines)
     }
@@ -276,14 +214,6 @@ impl Bench {
     pub(crate) fn set_bytes(&mut self, rt: &impl Abort, part: MemoryPart, bytes: &[u8]) {
         assert!(rt; bytes.len() <= length_of(&self.board.core, part));
         self.board.core.set_bytes(part, 0, bytes);
-    }
-
-    pub(crate) fn clear_memories(&mut self) {
-        self.board.core.clear_memories();
-    }
-
-    pub(crate) fn flash_machine(&self) -> Option<FlashMachine> {
-        self.board.core.flash_machine()
     }
 
     /// Lets the flash await a byte, where there is one.
@@ -303,7 +233,9 @@ impl Bench {
             samples,
             words,
         } = parts.counts;
-        assert!(rt; frames < 1 << 40 && samples < 1 << 40 && words < 1 << 40);
+        assert!(rt; frames < 0x100_0000_0000);
+        assert!(rt; samples < 0x100_0000_0000);
+        assert!(rt; words < 0x100_0000_0000);
         assert!(rt; parts.devices.clock() <= 1_000_000);
         assert!(rt; lines.len() <= 160);
         self.board.pour(parts, lines, 1_000_000);

@@ -8,8 +8,8 @@ use Move::{
     Master, Memory, Pair, Pairs, Pending, Place, Price, Put, Queue, Read, Reference, Sequencer,
     Store, Timer, Tone, Unit, Wakes, Wave,
 };
-use gba_bus::Width;
 use gba_bus::Width::{Byte, Half, Word};
+use gba_bus::{Bus, Width};
 use gba_io::{MemoryName, Room};
 use std::alloc::Global;
 use std::process::Abort;
@@ -108,9 +108,10 @@ fn advance_lines<R: Abort>(rt: &R, bench: &mut Bench, lines: u32) {
     }
 }
 
-/// A price that may be none: none is 0, and no price is.
-fn price(got: Option<u32>, wanted: Option<u32>) -> Shown {
-    number(u64::from(got.unwrap_or(0)), u64::from(wanted.unwrap_or(0)))
+/// A DMA unit takes so many cycles, or there is none.
+fn unit_is<R: Abort>(rt: &R, bench: &mut Bench, cycles: Option<u32>) -> Shown {
+    is(rt, "a unit", bench.board.core.dma_unit(), cycles);
+    NOTHING
 }
 
 /// The last pair of samples.
@@ -123,7 +124,7 @@ fn last_pair(samples: &[u8]) -> Option<(i16, i16)> {
 
 /// So many pairs of samples are made and kept, and this is the last.
 fn pair_is<R: Abort>(rt: &R, bench: &Bench, count: usize, pair: (i16, i16)) -> Shown {
-    let samples = bench.samples();
+    let samples = bench.board.made.samples();
     is(
         rt,
         "the last pair",
@@ -132,7 +133,7 @@ fn pair_is<R: Abort>(rt: &R, bench: &Bench, count: usize, pair: (i16, i16)) -> S
     );
     let count = count as u64;
     Shown {
-        got: [bench.counts().samples, samples.len() as u64 / 4, 0],
+        got: [bench.board.counts().samples, samples.len() as u64 / 4, 0],
         wanted: [count, count, 0],
     }
 }
@@ -154,7 +155,7 @@ fn timer_is<R: Abort>(rt: &R, bench: &Bench, number: u32, counter: u16, phase: u
 }
 
 fn place_is(bench: &Bench, line: u32, dot: u32) -> Shown {
-    let place = bench.place();
+    let place = bench.board.core.devices().place();
     two((place.line, place.dot), (line, dot))
 }
 
@@ -163,13 +164,11 @@ fn reference_is<R: Abort>(rt: &R, bench: &Bench, background: u32, x: u32, y: u32
     two((point.x, point.y), (x, y))
 }
 
-/// So many bytes, and the first, or 256 where there is none.
-fn memory_is(bytes: &[u8], length: usize, first: Option<u8>) -> Shown {
-    let got = bytes.first().copied().map_or(256, u64::from);
-    Shown {
-        got: [bytes.len() as u64, got, 0],
-        wanted: [length as u64, first.map_or(256, u64::from), 0],
-    }
+/// So many bytes, and the first, if there is one.
+fn memory_is<R: Abort>(rt: &R, bytes: &[u8], length: usize, first: Option<u8>) -> Shown {
+    let got = (bytes.len(), bytes.first().copied());
+    is(rt, "a memory", got, (length, first));
+    NOTHING
 }
 
 /// So many were made, and so many are kept, of which each has so many bytes.
@@ -182,11 +181,16 @@ fn list_is(made: (u64, u64), bytes: &[u8], size: u64, kept: u64) -> Shown {
 
 /// Looks at the memories and the lists.
 fn look_at_lists<R: Abort>(rt: &R, bench: &Bench, one: Move) -> Shown {
-    let counts = bench.counts();
+    let counts = bench.board.counts();
     match one {
-        Memory(name, length, first) => memory_is(bench.memory(name), length, first),
-        Frames(made, kept) => list_is((counts.frames, made), bench.frames(), 76_800, kept),
-        Pairs(made, kept) => list_is((counts.samples, made), bench.samples(), 4, kept),
+        Memory(name, length, first) => memory_is(rt, bench.board.core.memory(name), length, first),
+        Frames(made, kept) => list_is(
+            (counts.frames, made),
+            bench.board.made.frames(),
+            76_800,
+            kept,
+        ),
+        Pairs(made, kept) => list_is((counts.samples, made), bench.board.made.samples(), 4, kept),
         _ => panic!(rt; "a move that nobody makes"),
     }
 }
@@ -197,7 +201,7 @@ fn look_at_devices<R: Abort>(rt: &R, bench: &Bench, one: Move) -> Shown {
         Timer(number, counter, phase) => timer_is(rt, bench, number, counter, phase),
         Queue(queue, held, current) => queue_is(rt, bench, queue, held, current),
         Tone(channel, place) => two((bench.tone(rt, channel).place, 0), (place, 0)),
-        Sequencer(cycles) => two((bench.sequencer(), 0), (cycles, 0)),
+        Sequencer(cycles) => two((bench.board.core.devices().sequencer(), 0), (cycles, 0)),
         Wave(bank, byte) => number(u64::from(bench.wave_bank(rt, bank)[0]), u64::from(byte)),
         Pair(count, left, right) => pair_is(rt, bench, count, (left, right)),
         Place(line, dot) => place_is(bench, line, dot),
@@ -209,13 +213,13 @@ fn look_at_devices<R: Abort>(rt: &R, bench: &Bench, one: Move) -> Shown {
 /// Looks at what must hold.
 fn look<R: Abort>(rt: &R, bench: &Bench, one: Move) -> Shown {
     match one {
-        Kept(offset, half) => number(u64::from(bench.io_half(offset)), u64::from(half)),
-        Halts(halted) => flag(bench.halted(), halted),
-        Pending(pending) => flag(bench.pending(), pending),
-        Master(master) => flag(bench.master(), master),
-        Calm(calm) => flag(bench.is_calm(), calm),
+        Kept(offset, half) => number(u64::from(bench.board.core.io_half(offset)), u64::from(half)),
+        Halts(halted) => flag(bench.board.core.devices().set().halted(), halted),
+        Pending(pending) => flag(bench.board.core.devices().set().pending(), pending),
+        Master(master) => flag(bench.board.core.devices().set().master(), master),
+        Calm(calm) => flag(bench.board.core.is_calm(), calm),
         Price(cycles) => two((bench.code_price(0x0800_0000, Half), 0), (cycles, 0)),
-        Clock(clock) => number(bench.clock(), clock),
+        Clock(clock) => number(bench.board.core.clock(), clock),
         Left(channel, units) => two((bench.units_left(rt, channel), 0), (units, 0)),
         other => look_at_devices(rt, bench, other),
     }
@@ -226,9 +230,9 @@ fn make<R: Abort>(rt: &R, bench: &mut Bench, one: Move) {
     match one {
         Advance(cycles) => bench.advance(rt, cycles),
         Lines(lines) => advance_lines(rt, bench, lines),
-        Keys(pressed) => bench.set_keys(pressed),
-        Begins => bench.begin(),
-        Wakes => bench.wake(),
+        Keys(pressed) => bench.board.core.set_keys(pressed),
+        Begins => bench.board.core.begin(),
+        Wakes => bench.board.core.wake(),
         Forget => bench.forget(rt),
         _ => {}
     }
@@ -236,18 +240,15 @@ fn make<R: Abort>(rt: &R, bench: &mut Bench, one: Move) {
 
 fn play<R: Abort>(rt: &R, bench: &mut Bench, one: Move) -> Shown {
     match one {
-        Store(offset, width, value) => {
-            let cycles = bench.store(0x0400_0000 | offset, width, value);
-            two((cycles, 0), (1, 0))
-        }
-        Load(offset, width, value) => two(bench.load(0x0400_0000 | offset, width), (value, 1)),
-        Unit(cycles) => price(bench.dma_unit(), cycles),
+        Store(offset, width, value) => { two((bench.store_io(offset, width, value), 0), (1, 0)) }
+        Load(offset, width, value) => two(bench.load_io(offset, width), (value, 1)),
+        Unit(cycles) => unit_is(rt, bench, cycles),
         Put(address, width, value) => {
             let _ = bench.store(address, width, value);
             NOTHING
         }
         Read(address, width, value) => two(bench.load(address, width), (value, 1)),
-        Code(address, width, value) => two((bench.code(address, width), 0), (value, 0)),
+        Code(address, width, value) => two((bench.board.core.code(address, width), 0), (value, 0)),
         Advance(_) | Lines(_) | Keys(_) | Begins | Wakes | Forget => {
             make(rt, bench, one);
             NOTHING
@@ -260,8 +261,7 @@ fn play<R: Abort>(rt: &R, bench: &mut Bench, one: Move) -> Shown {
 fn play_all<R: Abort>(rt: &R, bench: &mut Bench, list: usize, moves: &[Move]) {
     for (place, one) in moves.iter().enumerate() {
         let shown = play(rt, bench, *one);
-        let got = shown.got;
-        let wanted = shown.wanted;
+        let Shown { got, wanted } = shown;
         is(
             rt,
             "list, move, numbers",
@@ -912,11 +912,17 @@ static MOVES: [&[Move]; 37] = [
     ],
 ];
 
+/// Makes the moves of a list on a board of their own.
+fn play_list<R: Abort>(rt: &R, alloc: Global, list: usize, moves: &[Move]) -> Result<(), Fail> {
+    let mut bench = bench_of(alloc)?;
+    play_all(rt, &mut bench, list, moves);
+    Ok(())
+}
+
 #[test]
 fn registers_keep_their_table(rt: HostRuntime) -> Result<(), Fail> {
     for (list, moves) in MOVES.iter().enumerate() {
-        let mut bench = bench_of(rt.alloc())?;
-        play_all(&rt, &mut bench, list, moves);
+        play_list(&rt, rt.alloc(), list, moves)?;
     }
     Ok(())
 }

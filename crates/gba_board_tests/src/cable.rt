@@ -70,11 +70,19 @@ fn advance<R: Abort>(rt: &R, bench: &mut Bench, cycles: u32) {
     }
 }
 
+/// A start with its speed and word, if there is one.
+fn begun(start: Option<(u8, u32)>) -> Option<link_node::Start> {
+    match start {
+        Some((speed, word)) => Some(link_node::Start { speed, word }),
+        None => None,
+    }
+}
+
 fn start(clock: u64, mode: LinkMode, start: Option<(u8, u32)>, reply: Option<u32>) -> Signal {
     Signal {
         clock,
         mode,
-        start: start.map(|(speed, word)| link_node::Start { speed, word }),
+        start: begun(start),
         reply,
     }
 }
@@ -89,13 +97,13 @@ fn incoming(arrival: u64, sender: u32, signal: Signal) -> Incoming {
 
 /// The step tells this signal, or nothing.
 fn tells<R: Abort>(rt: &R, bench: &Bench, signal: Option<Signal>) -> Shown {
-    is(rt, "told", bench.outgoing(), signal);
+    is(rt, "told", bench.board.outgoing(), signal);
     NOTHING
 }
 
 /// This transfer is kept at a place.
 fn word_is<R: Abort>(rt: &R, bench: &Bench, place: usize, transfer: Transfer) -> Shown {
-    let word = bench.words().get(place).copied();
+    let word = bench.board.words().get(place).copied();
     is(rt, "kept", word, Some(transfer));
     NOTHING
 }
@@ -107,7 +115,11 @@ fn mode_is<R: Abort>(rt: &R, bench: &Bench, player: u32, mode: LinkMode) -> Show
 
 fn counts_are(bench: &Bench, count: u64, kept: usize) -> Shown {
     Shown {
-        got: [bench.counts().words, bench.words().len() as u64, 0],
+        got: [
+            bench.board.counts().words,
+            bench.board.words().len() as u64,
+            0,
+        ],
         wanted: [count, kept as u64, 0],
     }
 }
@@ -124,7 +136,7 @@ fn make<R: Abort>(rt: &R, bench: &mut Bench, one: Move) {
             bench.take(rt, &incoming(arrival, sender, signal));
         }
         Advance(cycles) => advance(rt, bench, cycles),
-        Begins => bench.begin(),
+        Begins => bench.board.core.begin(),
         Ends => bench.end_due(rt),
         Forget => bench.forget(rt),
         _ => {}
@@ -133,8 +145,8 @@ fn make<R: Abort>(rt: &R, bench: &mut Bench, one: Move) {
 
 fn look<R: Abort>(rt: &R, bench: &Bench, one: Move) -> Shown {
     match one {
-        Kept(offset, half) => number(u64::from(bench.io_half(offset)), u64::from(half)),
-        Calm(calm) => flag(bench.is_calm(), calm),
+        Kept(offset, half) => number(u64::from(bench.board.core.io_half(offset)), u64::from(half)),
+        Calm(calm) => flag(bench.board.core.is_calm(), calm),
         Tells(clock, mode, begun, reply) => {
             tells(rt, bench, Some(start(clock, mode, begun, reply)))
         }
@@ -148,11 +160,8 @@ fn look<R: Abort>(rt: &R, bench: &Bench, one: Move) -> Shown {
 
 fn play<R: Abort>(rt: &R, bench: &mut Bench, one: Move) -> Shown {
     match one {
-        Store(offset, width, value) => {
-            let cycles = bench.store(0x0400_0000 | offset, width, value);
-            two((cycles, 0), (1, 0))
-        }
-        Load(offset, width, value) => two(bench.load(0x0400_0000 | offset, width), (value, 1)),
+        Store(offset, width, value) => { two((bench.store_io(offset, width, value), 0), (1, 0)) }
+        Load(offset, width, value) => two(bench.load_io(offset, width), (value, 1)),
         other => {
             make(rt, bench, other);
             look(rt, bench, other)
@@ -163,7 +172,8 @@ fn play<R: Abort>(rt: &R, bench: &mut Bench, one: Move) -> Shown {
 /// Makes moves, and looks at what they show.
 fn play_all<R: Abort>(rt: &R, bench: &mut Bench, case: &str, moves: &[Move]) {
     for (place, one) in moves.iter().enumerate() {
-        shows(rt, case, place, play(rt, bench, *one));
+        let shown = play(rt, bench, *one);
+        shows(rt, case, place, shown);
     }
 }
 

@@ -2,7 +2,8 @@
 
 use crate::bench::{Bench, Seat};
 use crate::shown::is;
-use crate::skipping::{RUNNING, check};
+use crate::skipping::{RUNNING, check, set_running};
+use gba_bus::Width;
 use gba_bus::Width::{Byte, Half, Word};
 use gba_devices::Devices;
 use gba_io::{BoardParts, Counts, MemoryName, Room};
@@ -27,16 +28,15 @@ fn bench_of(alloc: Global) -> Result<Bench, Fail> {
     Bench::of(alloc, 0, seat, room)
 }
 
-fn store<R: Abort>(rt: &R, devices: &mut Devices, offset: u32, value: u32) {
+fn store<R: Abort>(rt: &R, devices: &mut Devices, offset: u32, width: Width, value: u32) {
     assert!(rt; offset < 0x400);
-    devices.store(offset, Word, value);
+    devices.store(offset, width, value);
 }
 
-/// Lets the registers of a board and of devices run.
-fn begin<R: Abort>(rt: &R, bench: &mut Bench, devices: &mut Devices) {
+/// Lets the registers of devices run.
+fn begin<R: Abort>(rt: &R, devices: &mut Devices) {
     for &(offset, value) in &RUNNING {
-        bench.store(0x0400_0000 | offset, Word, value);
-        store(rt, devices, offset, value);
+        store(rt, devices, offset, Word, value);
     }
 }
 
@@ -65,7 +65,7 @@ fn transfer(bench: &mut Bench, word: u32) {
 
 /// A step of 512 cycles before which the colour behind all layers changes.
 fn step<R: Abort>(rt: &R, bench: &mut Bench, number: u32) {
-    bench.begin();
+    bench.board.core.begin();
     bench.store(0x0500_0000, Half, 97 * (number % 300));
     bench.end_due(rt);
     bench.advance(rt, 512);
@@ -96,7 +96,7 @@ static MEMORIES: [(MemoryName, MemoryPart); 6] = [
 /// Pours a board's memories into another one.
 fn pour_memories<R: Abort>(rt: &R, one: &Bench, other: &mut Bench) {
     for &(name, part) in &MEMORIES {
-        other.set_bytes(rt, part, one.memory(name));
+        other.set_bytes(rt, part, one.board.core.memory(name));
     }
 }
 
@@ -112,7 +112,7 @@ fn pour_all<R: Abort>(
     let parts = BoardParts {
         devices,
         serial: one.serial(),
-        counts: one.counts(),
+        counts: one.board.counts(),
     };
     other.pour(rt, parts, lines.as_slice());
     pour_memories(rt, one, other);
@@ -121,8 +121,13 @@ fn pour_all<R: Abort>(
 
 fn check_halves<R: Abort>(rt: &R, one: &Bench, other: &Bench) {
     for half in 0..0x200 {
-        let got = (half, one.io_half(2 * half));
-        is(rt, "a halfword", got, (half, other.io_half(2 * half)));
+        let got = (half, one.board.core.io_half(2 * half));
+        is(
+            rt,
+            "a halfword",
+            got,
+            (half, other.board.core.io_half(2 * half)),
+        );
     }
 }
 
@@ -136,25 +141,29 @@ fn go_on<R: Abort>(rt: &R, one: &mut Bench, other: &mut Bench) {
         check(rt, one, other);
     }
     check_halves(rt, one, other);
-    assert!(rt; one.frames() == other.frames() && one.words() == other.words());
+    assert!(rt;
+        one.board.made.frames() == other.board.made.frames()
+            && one.board.words() == other.board.words()
+    );
 }
 
 /// How much of frames, samples and transfers was made, and how many bytes of frames and how many transfers are kept.
 fn made(bench: &Bench) -> [u64; 5] {
-    let counts = bench.counts();
+    let counts = bench.board.counts();
     [
         counts.frames,
         counts.samples,
         counts.words,
-        bench.frames().len() as u64,
-        bench.words().len() as u64,
+        bench.board.made.frames().len() as u64,
+        bench.board.words().len() as u64,
     ]
 }
 
 /// Devices that have come with a board to where a transfer runs.
 fn come<R: Abort>(rt: &R, bench: &mut Bench) -> Devices {
     let mut devices = Devices::new();
-    begin(rt, bench, &mut devices);
+    set_running(rt, bench);
+    begin(rt, &mut devices);
     run(rt, bench, &mut devices);
     devices
 }
@@ -193,33 +202,41 @@ static COUNTS: [Counts; 3] = [
 ];
 
 /// Halted devices, with 3 waits for the first access to the ROM and 1 for the next.
-fn halted() -> Devices {
+fn halted<R: Abort>(rt: &R) -> Devices {
     let mut devices = Devices::new();
-    devices.store(0x204, Half, 0x4317);
-    devices.store(0x301, Byte, 0);
+    store(rt, &mut devices, 0x204, Half, 0x4317);
+    store(rt, &mut devices, 0x301, Byte, 0);
     devices.begin();
     devices
 }
 
 /// Nothing asks for more than an instruction, or something does, and an access to the ROM costs this.
 fn costs<R: Abort>(rt: &R, bench: &Bench, calm: bool, price: u32) {
-    let got = (bench.is_calm(), bench.code_price(0x0800_0000, Half));
+    let got = (
+        bench.board.core.is_calm(),
+        bench.code_price(0x0800_0000, Half),
+    );
     is(rt, "calm, and the price", got, (calm, price));
 }
 
 /// Counts from these on, with the pair of samples at clock 512.
 fn counts_on<R: Abort>(rt: &R, bench: &mut Bench, counts: Counts) {
-    is(rt, "counts", bench.counts(), counts);
+    is(rt, "counts", bench.board.counts(), counts);
     bench.advance(rt, 512);
-    let made = bench.counts().samples.checked_sub(counts.samples);
-    is(rt, "one pair", (made, bench.samples().len()), (Some(1), 4));
+    let made = bench.board.counts().samples.checked_sub(counts.samples);
+    is(
+        rt,
+        "one pair",
+        (made, bench.board.made.samples().len()),
+        (Some(1), 4),
+    );
 }
 
 /// Pours halted devices and these counts.
 fn pour_counts<R: Abort>(rt: &R, bench: &mut Bench, counts: Counts) {
     costs(rt, bench, true, 5);
     let parts = BoardParts {
-        devices: halted(),
+        devices: halted(rt),
         serial: bench.serial(),
         counts,
     };
@@ -242,9 +259,15 @@ fn counts_are_poured(rt: HostRuntime) -> Result<(), Fail> {
 
 /// Puts three bytes at the front of each memory.
 fn put_bytes<R: Abort>(rt: &R, bench: &mut Bench) {
-    for &(name, part) in &MEMORIES {
+    for &(_, part) in &MEMORIES {
         bench.set_bytes(rt, part, &[0x11, 0x22, 0x33]);
-        let third = bench.memory(name).get(2).copied();
+    }
+}
+
+/// The third byte of each memory is the last one that was put.
+fn are_put<R: Abort>(rt: &R, bench: &Bench) {
+    for &(name, _) in &MEMORIES {
+        let third = bench.board.core.memory(name).get(2).copied();
         is(rt, "the third byte", (name, third), (name, Some(0x33)));
     }
 }
@@ -260,7 +283,7 @@ fn are_cleared<R: Abort>(rt: &R, bench: &Bench) {
         is(
             rt,
             "clear",
-            (name, is_clear(bench.memory(name))),
+            (name, is_clear(bench.board.core.memory(name))),
             (name, true),
         );
     }
@@ -271,9 +294,10 @@ fn are_cleared<R: Abort>(rt: &R, bench: &Bench) {
 fn memories_are_poured(rt: HostRuntime) -> Result<(), Fail> {
     let mut bench = bench_of(rt.alloc())?;
     put_bytes(&rt, &mut bench);
+    are_put(&rt, &bench);
     bench.restore_flash();
-    is(&rt, "a machine", bench.flash_machine(), None);
-    bench.clear_memories();
+    is(&rt, "a machine", bench.board.core.flash_machine(), None);
+    bench.board.core.clear_memories();
     are_cleared(&rt, &bench);
     Ok(())
 }

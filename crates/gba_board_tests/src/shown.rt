@@ -10,7 +10,8 @@ pub(crate) fn is<R: Abort, T: Copy + PartialEq + Debug>(rt: &R, what: &str, got:
 
 /// A move of a case shows what it must.
 pub(crate) fn shows<R: Abort>(rt: &R, case: &str, place: usize, shown: Shown) {
-    assert_eq!(rt; shown.got, shown.wanted, "{case}, move {place}");
+    let Shown { got, wanted } = shown;
+    is(rt, case, (place, got), (place, wanted));
 }
 
 /// What a move shows, and what it must show: up to three numbers.

@@ -3,7 +3,8 @@
 use crate::bench::{Bench, Seat};
 use crate::shown::is;
 use gba_bus::Width::Word;
-use gba_io::Room;
+use gba_io::{Counts, Room};
+use gba_ppu_reg::Position;
 use std::alloc::Global;
 use std::process::Abort;
 use std::test::Fail;
@@ -49,13 +50,17 @@ fn bench_of(alloc: Global, samples: bool) -> Result<Bench, Fail> {
     Bench::of(alloc, 0, seat, room)
 }
 
+/// Lets the registers of a board run.
+pub(crate) fn set_running<R: Abort>(rt: &R, bench: &mut Bench) {
+    for &(offset, value) in &RUNNING {
+        is(rt, "a price", bench.store_io(offset, Word, value), 1);
+    }
+}
+
 /// A board whose registers run.
 fn running(rt: &impl Abort, alloc: Global, samples: bool) -> Result<Bench, Fail> {
     let mut bench = bench_of(alloc, samples)?;
-    for (offset, value) in &RUNNING {
-        let price = bench.store(0x0400_0000 | *offset, Word, *value);
-        is(rt, "a price", price, 1);
-    }
+    set_running(rt, &mut bench);
     Ok(bench)
 }
 
@@ -75,28 +80,20 @@ fn check_tones<R: Abort>(rt: &R, one: &Bench, other: &Bench) {
 
 fn check_queues<R: Abort>(rt: &R, one: &Bench, other: &Bench) {
     for queue in 0..2u32 {
-        assert_eq!(rt;
-            one.queue(rt, queue),
-            other.queue(rt, queue),
-            "queue {queue}"
-        );
+        let queues = (one.queue(rt, queue), other.queue(rt, queue));
+        is(rt, "a queue", (queue, queues.0), (queue, queues.1));
     }
 }
 
-/// The clock, the line and the dot, the requests, the cycles since the sound was turned on, and what was made.
-fn numbers(bench: &Bench) -> [u64; 8] {
-    let place = bench.place();
-    let counts = bench.counts();
-    [
-        bench.clock(),
-        u64::from(place.line),
-        u64::from(place.dot),
-        u64::from(bench.io_half(0x202)),
-        u64::from(bench.sequencer()),
-        counts.frames,
-        counts.samples,
-        counts.words,
-    ]
+/// The clock, the place of the picture, the requests, the cycles since the sound was turned on, and what was made.
+fn numbers(bench: &Bench) -> (u64, Position, u16, u32, Counts) {
+    (
+        bench.board.core.clock(),
+        bench.board.core.devices().place(),
+        bench.board.core.io_half(0x202),
+        bench.board.core.devices().sequencer(),
+        bench.board.counts(),
+    )
 }
 
 /// Both boards are the same, as far as their clocks, places, timers, queues, tones, requests and samples tell.
@@ -105,7 +102,7 @@ pub(crate) fn check<R: Abort>(rt: &R, one: &Bench, other: &Bench) {
     check_timers(rt, one, other);
     check_tones(rt, one, other);
     check_queues(rt, one, other);
-    assert!(rt; one.samples() == other.samples());
+    assert!(rt; one.board.made.samples() == other.board.made.samples());
 }
 
 /// So many moves by so many cycles.
@@ -132,7 +129,12 @@ fn skip_and_step<R: Abort>(rt: &R, alloc: Global, samples: bool) -> Result<(), F
             step_both(rt, &mut one, &mut other, *cycles);
         }
     }
-    is(rt, "pairs", one.counts().samples, one.clock() / 512);
+    is(
+        rt,
+        "pairs",
+        one.board.counts().samples,
+        one.board.core.clock() / 512,
+    );
     Ok(())
 }
 
@@ -168,20 +170,33 @@ static NOT_HEARD: [Owing; 5] = [
     (0, 16, 20, [0, 992, 1]),
 ];
 
+/// How many steps a board owes behind a move, and its clock and its pairs then.
+fn owed<R: Abort>(rt: &R, bench: &mut Bench, moved: u32, cycles: u32, most: u32) -> [u64; 3] {
+    bench.advance(rt, moved);
+    let steps = bench.owe_steps(rt, cycles, most);
+    [
+        u64::from(steps),
+        bench.board.core.clock(),
+        bench.board.counts().samples,
+    ]
+}
+
 fn owes<R: Abort>(rt: &R, bench: &mut Bench, owing: &[Owing]) {
-    for (moved, cycles, most, wanted) in owing {
-        bench.advance(rt, *moved);
-        let steps = bench.owe_steps(rt, *cycles, *most);
-        let got = [u64::from(steps), bench.clock(), bench.counts().samples];
-        is(rt, "steps, clock and pairs", got, *wanted);
+    for &(moved, cycles, most, wanted) in owing {
+        let got = owed(rt, bench, moved, cycles, most);
+        is(rt, "steps, clock and pairs", got, wanted);
     }
+}
+
+/// A new board, whose samples are kept or not, owes so many steps.
+fn new_owes<R: Abort>(rt: &R, alloc: Global, samples: bool, owing: &[Owing]) -> Result<(), Fail> {
+    let mut bench = bench_of(alloc, samples)?;
+    owes(rt, &mut bench, owing);
+    Ok(())
 }
 
 #[test]
 fn steps_are_owed_up_to_what_happens(rt: HostRuntime) -> Result<(), Fail> {
-    for (samples, owing) in [(true, HEARD.as_slice()), (false, NOT_HEARD.as_slice())] {
-        let mut bench = bench_of(rt.alloc(), samples)?;
-        owes(&rt, &mut bench, owing);
-    }
-    Ok(())
+    new_owes(&rt, rt.alloc(), true, &HEARD)?;
+    new_owes(&rt, rt.alloc(), false, &NOT_HEARD)
 }
