@@ -23,7 +23,7 @@ pub(crate) enum JobVersion {
 }
 
 /// Where in a job the next line stands.
-#[derive(Clone, Copy, Debug, PartialEq, Eq)]
+#[derive(Clone, Copy, Debug)]
 pub(crate) enum Place {
     /// Before the first line.
     Start,
@@ -99,10 +99,8 @@ impl DraftJob {
         ensures { OnOk result (draft_value self.new ≡ closed place (draft_value self.old)) }
     {
         let last = mem::replace(&mut self.last, DraftConsole::silent(alloc));
-        if self.place == Place::Inside {
-            if let Some(whole) = last.whole() {
-                self.consoles.push(whole)?;
-            }
+        if let (Place::Inside, Some(whole)) = (self.place, last.whole()) {
+            self.consoles.push(whole)?;
         }
         self.place = place;
         Ok(())
@@ -169,24 +167,30 @@ impl DraftJob {
         requires { lines + 1 < 2 ^ 64 }
         ensures { Agrees job_value result (job_at_end_of lines (draft_value self)) }
     {
-        let missing = JobError {
-            line: lines + 1,
-            kind: JobKind::Missing,
+        let DraftJob {
+            version: _,
+            place,
+            cycles,
+            delay,
+            links,
+            consoles,
+            last: _,
+        } = self;
+        let (Place::Ended, Some(cycles)) = (place, cycles) else {
+            return Err(JobError {
+                line: lines + 1,
+                kind: JobKind::Missing,
+            });
         };
-        if self.place != Place::Ended {
-            return Err(missing);
-        }
-        match self.cycles {
-            Some(cycles) => {
-                let every = self.delay.unwrap_or(USUAL_DELAY);
-                let players = players_for(self.consoles.len());
-                Ok(Job {
-                    cycles,
-                    delays: delays_of(every, &self.links, players),
-                    consoles: self.consoles,
-                })
-            }
-            None => Err(missing),
-        }
+        let delays = delays_of(
+            delay.unwrap_or(USUAL_DELAY),
+            &links,
+            players_for(consoles.len()),
+        );
+        Ok(Job {
+            cycles,
+            delays,
+            consoles,
+        })
     }
 }

@@ -4,7 +4,7 @@ ghost use Rattle.std.specs.Prelude.{◌≡◌, ◌<◌, true};
 ghost use Rattle.gba_text.specs.Numbers.{is_number as is_number_of};
 ghost use Rattle.gba_text.specs.Words.{fault_of};
 ghost use Rattle.gba_text.specs.Answers.{Agrees, Takes};
-ghost use Rattle.gba_joblog.specs.Operands.{backup_at as backup_at_of, digest_at as digest_at_of, digits_at as digits_at_of, end_at as end_at_of, has_words as has_words_of, keys_at as keys_at_of, name_at as name_at_of, number_at as number_at_of, out_kind_at as out_kind_at_of, pair_at as pair_at_of, player_at as player_at_of, version_at as version_at_of, word_at as word_at_of};
+ghost use Rattle.gba_joblog.specs.Operands.{backup_at as backup_at_of, digest_at as digest_at_of, digits_at as digits_at_of, end_at as end_at_of, has_words as has_words_of, keys_at as keys_at_of, name_at as name_at_of, number_at as number_at_of, out_kind_at as out_kind_at_of, pair_at as pair_at_of, player_at as player_at_of, version_at as version_at_of, version_of, word_at as word_at_of};
 
 use crate::backup::backup_named;
 use crate::cable::Pair;
@@ -94,7 +94,20 @@ pub(crate) fn name_at<'a>(cursor: &mut Cursor<'a>) -> Result<&'a str, JobKind>
     Ok(name_text(word))
 }
 
-/// The word `1` or `2`, the version of the language.
+/// The version of the language that a word is, `1` or `2`.
+fn version_named(word: &[u8]) -> Option<JobVersion>
+    ensures { result ≡ version_of word.now }
+{
+    if word == b"1".as_slice() {
+        Some(JobVersion::One)
+    } else if word == b"2".as_slice() {
+        Some(JobVersion::Two)
+    } else {
+        None
+    }
+}
+
+/// The next word as the version of the language.
 #[tactic(auto, unfolding(crate::specs::Operands::version_at))]
 pub(crate) fn version_at(cursor: &mut Cursor<'_>) -> Result<JobVersion, JobKind>
     requires given { 0 < cursor.old.number }
@@ -105,13 +118,7 @@ pub(crate) fn version_at(cursor: &mut Cursor<'_>) -> Result<JobVersion, JobKind>
     ensures lines { cursor.new.lines ≡ cursor.old.lines }
 {
     let word = word_at(cursor)?;
-    if word == b"1".as_slice() {
-        Ok(JobVersion::One)
-    } else if word == b"2".as_slice() {
-        Ok(JobVersion::Two)
-    } else {
-        Err(JobKind::Word)
-    }
+    version_named(word).ok_or(JobKind::Word)
 }
 
 /// The next word as what a cartridge keeps its saves in.

@@ -30,7 +30,7 @@ fn words_say<'a>(draft: &DraftJob, cursor: &mut Cursor<'a>) -> Result<Option<Lin
     ensures lines { cursor.new.lines ≡ cursor.old.lines }
 {
     let word = word_at(cursor)?;
-    if draft.place == Place::Ended {
+    if matches!(draft.place, Place::Ended) {
         return Err(JobKind::Extra);
     }
     let Some(keyword) = keyword_in(draft.version, word) else {

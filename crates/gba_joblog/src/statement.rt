@@ -4,6 +4,7 @@ ghost use Rattle.std.specs.Prelude.{◌≡◌, ◌<◌};
 ghost use Rattle.gba_text.specs.Words.{fault_of};
 ghost use Rattle.gba_text.specs.Answers.{Agrees};
 ghost use Rattle.gba_joblog.specs.Statements.{arguments as arguments_of, file_refusal as file_refusal_of, has_image as has_image_of, keyword_in as keyword_in_of, keyword_of as keyword_spelled, most_cycles as most_cycles_of, once as once_of, refusal_at as refusal_at_of};
+ghost use Rattle.gba_joblog.specs.declared.statement.Keyword.TheVariants as keyword;
 ghost use Rattle.gba_joblog.specs.Views.{draft_console_value, draft_value, statement_value};
 
 use crate::cable::{Link, link_for};
@@ -183,6 +184,62 @@ fn has_image(draft: &DraftJob) -> bool
     }
 }
 
+/// What a line `link` says.
+#[tactic(auto, unfolding(crate::specs::Statements::arguments))]
+fn link_line<'a>(draft: &DraftJob, cursor: &mut Cursor<'a>) -> Result<Line<'a>, JobKind>
+    requires given { 0 < cursor.old.number }
+    requires sound { fault_of cursor.old.line ≡ None }
+    ensures says { Agrees statement_value result (arguments_of (draft_value draft.now) keyword.Link cursor.old.words) }
+    ensures number { cursor.new.number ≡ cursor.old.number }
+    ensures line { cursor.new.line ≡ cursor.old.line }
+    ensures lines { cursor.new.lines ≡ cursor.old.lines }
+{
+    let pair = pair_at(cursor)?;
+    if link_for(pair, &draft.links).is_some() {
+        return Err(JobKind::Repeated);
+    }
+    let delay = number_at(cursor, 1, MOST_DELAY)?;
+    end_at(cursor)?;
+    Ok(Line::Link(Link { pair, delay }))
+}
+
+/// What a line `console` says.
+#[tactic(auto, unfolding(crate::specs::Statements::arguments))]
+fn console_line<'a>(draft: &DraftJob, cursor: &mut Cursor<'a>) -> Result<Line<'a>, JobKind>
+    requires given { 0 < cursor.old.number }
+    requires sound { fault_of cursor.old.line ≡ None }
+    ensures says { Agrees statement_value result (arguments_of (draft_value draft.now) keyword.Console cursor.old.words) }
+    ensures number { cursor.new.number ≡ cursor.old.number }
+    ensures line { cursor.new.line ≡ cursor.old.line }
+    ensures lines { cursor.new.lines ≡ cursor.old.lines }
+{
+    let player = player_at(cursor, draft.next_player())?;
+    if !has_image(draft) {
+        return Err(JobKind::Missing);
+    }
+    end_at(cursor)?;
+    Ok(Line::Console(player))
+}
+
+/// What a line `out` says.
+#[tactic(auto, unfolding(crate::specs::Statements::arguments))]
+fn out_line<'a>(draft: &DraftJob, cursor: &mut Cursor<'a>) -> Result<Line<'a>, JobKind>
+    requires given { 0 < cursor.old.number }
+    requires sound { fault_of cursor.old.line ≡ None }
+    ensures says { Agrees statement_value result (arguments_of (draft_value draft.now) keyword.Out cursor.old.words) }
+    ensures number { cursor.new.number ≡ cursor.old.number }
+    ensures line { cursor.new.line ≡ cursor.old.line }
+    ensures lines { cursor.new.lines ≡ cursor.old.lines }
+{
+    let out = out_kind_at(cursor)?;
+    if draft.last.asks_for(out) {
+        return Err(JobKind::Repeated);
+    }
+    let digest = digest_at(cursor)?;
+    end_at(cursor)?;
+    Ok(Line::Out(out, digest))
+}
+
 /// What a line says with its operands.
 #[tactic(auto, unfolding(crate::specs::Statements::arguments))]
 pub(crate) fn arguments<'a>(
@@ -213,23 +270,8 @@ pub(crate) fn arguments<'a>(
             end_at(cursor)?;
             Ok(Line::Delay(delay))
         }
-        Keyword::Link => {
-            let pair = pair_at(cursor)?;
-            if link_for(pair, &draft.links).is_some() {
-                return Err(JobKind::Repeated);
-            }
-            let delay = number_at(cursor, 1, MOST_DELAY)?;
-            end_at(cursor)?;
-            Ok(Line::Link(Link { pair, delay }))
-        }
-        Keyword::Console => {
-            let player = player_at(cursor, draft.next_player())?;
-            if !has_image(draft) {
-                return Err(JobKind::Missing);
-            }
-            end_at(cursor)?;
-            Ok(Line::Console(player))
-        }
+        Keyword::Link => link_line(draft, cursor),
+        Keyword::Console => console_line(draft, cursor),
         Keyword::File(kind) => {
             let name = name_at(cursor)?;
             let digest = digest_at(cursor)?;
@@ -250,15 +292,7 @@ pub(crate) fn arguments<'a>(
             end_at(cursor)?;
             Ok(Line::Off(off))
         }
-        Keyword::Out => {
-            let out = out_kind_at(cursor)?;
-            if draft.last.asks_for(out) {
-                return Err(JobKind::Repeated);
-            }
-            let digest = digest_at(cursor)?;
-            end_at(cursor)?;
-            Ok(Line::Out(out, digest))
-        }
+        Keyword::Out => out_line(draft, cursor),
         Keyword::End => {
             if draft.last.bios.is_none() {
                 return Err(JobKind::Missing);

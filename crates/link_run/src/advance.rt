@@ -149,85 +149,91 @@ fn go<R: Threads + Sync, N: Node + Send + Sync, G: Gate + Sync>(
     }
 }
 
-/// Two lanes side by side.
-fn two<R: Threads + Sync, N: Node + Send + Sync, G: Gate + Sync>(
+/// Lets the only lane of a list advance in this thread, if there is one.
+fn go_last<R: Threads + Sync, N: Node + Send + Sync, G: Gate + Sync>(
     work: &Work<R, N, G>,
-    a: &mut Lane<N>,
-    b: &mut Lane<N>,
+    lanes: &mut [Lane<N>],
 )
-    requires first { MayGo work.now.shared.now work.now.until a.old }
-    requires second { MayGo work.now.shared.now work.now.until b.old }
-    ensures first { Went (kind_of N.clock N.was N.next) N.plain N.bound work.now.until a.old a.new }
-    ensures second { Went (kind_of N.clock N.was N.next) N.plain N.bound work.now.until b.old b.new }
+    requires few { length lanes.old ≤ 1 }
+    requires may_go { All (MayGo work.now.shared.now work.now.until) lanes.old }
+    ensures { AllWent (kind_of N.clock N.was N.next) N.plain N.bound work.now.until lanes.old lanes.new }
 {
-    join_mut(
-        work.rt,
-        &mut ||
-            requires { MayGo work.now.shared.now work.now.until a.now }
-        { go(work, a) },
-        &mut ||
-            requires { MayGo work.now.shared.now work.now.until b.now }
-        { go(work, b) },
-    );
+    if let Some(last) = lanes.first_mut() {
+        go(work, last);
+    }
 }
 
-/// Three lanes side by side. This thread starts the others, so that the system knows of each before it places the next.
-fn three<R: Threads + Sync, N: Node + Send + Sync, G: Gate + Sync>(
+/// Lets up to two lanes advance side by side, the last one in this thread.
+fn go_two<R: Threads + Sync, N: Node + Send + Sync, G: Gate + Sync>(
     work: &Work<R, N, G>,
-    a: &mut Lane<N>,
-    b: &mut Lane<N>,
-    c: &mut Lane<N>,
+    lanes: &mut [Lane<N>],
 )
-    requires first { MayGo work.now.shared.now work.now.until a.old }
-    requires second { MayGo work.now.shared.now work.now.until b.old }
-    requires third { MayGo work.now.shared.now work.now.until c.old }
-    ensures first { Went (kind_of N.clock N.was N.next) N.plain N.bound work.now.until a.old a.new }
-    ensures second { Went (kind_of N.clock N.was N.next) N.plain N.bound work.now.until b.old b.new }
-    ensures third { Went (kind_of N.clock N.was N.next) N.plain N.bound work.now.until c.old c.new }
+    requires few { length lanes.old ≤ 2 }
+    requires may_go { All (MayGo work.now.shared.now work.now.until) lanes.old }
+    ensures { AllWent (kind_of N.clock N.was N.next) N.plain N.bound work.now.until lanes.old lanes.new }
 {
-    join_mut(
-        work.rt,
-        &mut ||
-            requires { MayGo work.now.shared.now work.now.until a.now }
-        { go(work, a) },
-        &mut ||
-            requires first { MayGo work.now.shared.now work.now.until b.now }
-            requires second { MayGo work.now.shared.now work.now.until c.now }
-        { two(work, b, c) },
-    );
+    if let Some((first, rest)) = lanes.split_first_mut() {
+        join_mut(
+            work.rt,
+            &mut ||
+                requires { MayGo work.now.shared.now work.now.until first.now }
+            { go(work, first) },
+            &mut ||
+                requires few { length rest.now ≤ 1 }
+                requires may_go { All (MayGo work.now.shared.now work.now.until) rest.now }
+            { go_last(work, rest) },
+        );
+    }
 }
 
-/// Four lanes side by side.
-fn four<R: Threads + Sync, N: Node + Send + Sync, G: Gate + Sync>(
+/// Lets up to three lanes advance side by side, the last one in this thread.
+fn go_three<R: Threads + Sync, N: Node + Send + Sync, G: Gate + Sync>(
     work: &Work<R, N, G>,
-    a: &mut Lane<N>,
-    b: &mut Lane<N>,
-    c: &mut Lane<N>,
-    d: &mut Lane<N>,
+    lanes: &mut [Lane<N>],
 )
-    requires first { MayGo work.now.shared.now work.now.until a.old }
-    requires second { MayGo work.now.shared.now work.now.until b.old }
-    requires third { MayGo work.now.shared.now work.now.until c.old }
-    requires fourth { MayGo work.now.shared.now work.now.until d.old }
-    ensures first { Went (kind_of N.clock N.was N.next) N.plain N.bound work.now.until a.old a.new }
-    ensures second { Went (kind_of N.clock N.was N.next) N.plain N.bound work.now.until b.old b.new }
-    ensures third { Went (kind_of N.clock N.was N.next) N.plain N.bound work.now.until c.old c.new }
-    ensures fourth { Went (kind_of N.clock N.was N.next) N.plain N.bound work.now.until d.old d.new }
+    requires few { length lanes.old ≤ 3 }
+    requires may_go { All (MayGo work.now.shared.now work.now.until) lanes.old }
+    ensures { AllWent (kind_of N.clock N.was N.next) N.plain N.bound work.now.until lanes.old lanes.new }
 {
-    join_mut(
-        work.rt,
-        &mut ||
-            requires { MayGo work.now.shared.now work.now.until a.now }
-        { go(work, a) },
-        &mut ||
-            requires first { MayGo work.now.shared.now work.now.until b.now }
-            requires second { MayGo work.now.shared.now work.now.until c.now }
-            requires third { MayGo work.now.shared.now work.now.until d.now }
-        { three(work, b, c, d) },
-    );
+    if let Some((first, rest)) = lanes.split_first_mut() {
+        join_mut(
+            work.rt,
+            &mut ||
+                requires { MayGo work.now.shared.now work.now.until first.now }
+            { go(work, first) },
+            &mut ||
+                requires few { length rest.now ≤ 2 }
+                requires may_go { All (MayGo work.now.shared.now work.now.until) rest.now }
+            { go_two(work, rest) },
+        );
+    }
 }
 
-/// Lets up to four lanes advance side by side.
+/// Lets up to four lanes advance side by side, the last one in this thread, which starts the others, so that the system
+/// knows of each before it places the next.
+fn go_four<R: Threads + Sync, N: Node + Send + Sync, G: Gate + Sync>(
+    work: &Work<R, N, G>,
+    lanes: &mut [Lane<N>],
+)
+    requires few { length lanes.old ≤ 4 }
+    requires may_go { All (MayGo work.now.shared.now work.now.until) lanes.old }
+    ensures { AllWent (kind_of N.clock N.was N.next) N.plain N.bound work.now.until lanes.old lanes.new }
+{
+    if let Some((first, rest)) = lanes.split_first_mut() {
+        join_mut(
+            work.rt,
+            &mut ||
+                requires { MayGo work.now.shared.now work.now.until first.now }
+            { go(work, first) },
+            &mut ||
+                requires few { length rest.now ≤ 3 }
+                requires may_go { All (MayGo work.now.shared.now work.now.until) rest.now }
+            { go_three(work, rest) },
+        );
+    }
+}
+
+/// Lets all lanes advance side by side.
 pub(crate) fn advance_all<R: Threads + Sync, N: Node + Send + Sync, G: Gate + Sync>(
     work: &Work<R, N, G>,
     lanes: &mut [Lane<N>],
@@ -237,22 +243,9 @@ pub(crate) fn advance_all<R: Threads + Sync, N: Node + Send + Sync, G: Gate + Sy
     ensures { AllWent (kind_of N.clock N.was N.next) N.plain N.bound work.now.until lanes.old lanes.new }
 {
     match lanes.len() {
-        0 => {}
-        1 => go(work, &mut lanes[0]),
-        2 => {
-            let (a, b) = lanes.split_at_mut(1);
-            two(work, &mut a[0], &mut b[0]);
-        }
-        3 => {
-            let (a, rest) = lanes.split_at_mut(1);
-            let (b, c) = rest.split_at_mut(1);
-            three(work, &mut a[0], &mut b[0], &mut c[0]);
-        }
-        _ => {
-            let (front, back) = lanes.split_at_mut(2);
-            let (a, b) = front.split_at_mut(1);
-            let (c, d) = back.split_at_mut(1);
-            four(work, &mut a[0], &mut b[0], &mut c[0], &mut d[0]);
-        }
+        0 | 1 => go_last(work, lanes),
+        2 => go_two(work, lanes),
+        3 => go_three(work, lanes),
+        _ => go_four(work, lanes),
     }
 }
