@@ -18,7 +18,7 @@ const POLLS: u32 = 1;
 const TURNS: u32 = 4096;
 
 /// The most looks in vain that a lane may have left. One takes some 20 ns.
-const MOST: u64 = 1 << 22;
+const MOST: u64 = 1 << 19;
 
 /// So many looks in vain at a peer that doesn't go on, and a lane goes on in another thread. They take 0.1 to 0.2 ms.
 const PATIENCE: u64 = 1 << 12;
@@ -77,7 +77,7 @@ fn wait<N: Node>(shared: &Shared<N>, pause: Pause, looks: u64) -> u64
 
 /// The looks that a lane has left after so many cycles, beside which each other one of so many lanes makes as many.
 fn earn(looks: u64, cycles: u64, lanes: u32) -> u64
-    ensures most { result ≤ 4194304 }
+    ensures most { result ≤ 524288 }
 {
     let others = cycles.saturating_mul(u64::from(lanes.saturating_sub(1)));
     looks.saturating_add(others / CYCLES).min(MOST)
@@ -94,7 +94,7 @@ fn go_here<R, N: Node, G: Gate>(
     requires may_go { MayGo work.now.shared.now work.now.until lane.old }
     requires some { 0 < patience }
     ensures went { Went (kind_of N.clock N.was N.next) N.plain N.bound work.now.until lane.old lane.new }
-    ensures most { result ≤ 4194304 }
+    ensures most { result ≤ 524288 }
 {
     let mut pause = lane.advance(work.shared, work.gate, work.until, POLLS);
     let mut clock = lane.clock();

@@ -22,7 +22,10 @@ const SHORTEST: u64 = 512;
 const NEAREST: u64 = 256;
 
 /// How many looks in vain a lane has when a round begins.
-const LOOKS: u64 = 1 << 21;
+const LOOKS: u64 = 1 << 18;
+
+/// The same in a round behind one that wasn't worth its while.
+const LATER_LOOKS: u64 = 1 << 16;
 
 /// The same where there are fewer processors than lanes.
 const FEW_LOOKS: u64 = 1 << 10;
@@ -80,6 +83,16 @@ fn next_stretch(stretch: u64, made: u64) -> u64 {
         stretch.saturating_mul(GROWTH)
     } else {
         STRETCH
+    }
+}
+
+/// The looks of each lane in a round behind a stretch of so many cycles. A stretch longer than that before a run's first
+/// round follows a round that wasn't worth its while.
+fn looks_after(stretch: u64, looks: u64) -> u64 {
+    if stretch > FIRST_STRETCH / GROWTH {
+        looks.min(LATER_LOOKS)
+    } else {
+        looks
     }
 }
 
@@ -177,6 +190,7 @@ fn go_on<R: Threads + Sync, N: Node + Send + Sync, G: Gate + Sync>(
         ComesNearer (kind_of N.clock N.was N.next) N.plain N.bound until cut result }
 {
     let meeting = first.saturating_add(nearest).min(until);
+    let looks = looks_after(*stretch, looks);
     let mut cut = go_round(rt, round, gate, until, meeting, looks);
     *stretch = next_stretch(*stretch, cut.least_clock().saturating_sub(first));
     go_serial(&mut cut, *stretch, until);

@@ -7,8 +7,8 @@ abbrev pub invariant-loop-left : goal.invariant-loop-left
 invariant-loop-left g l = record {
   went : Went (kind_of g.N.Node.clock g.N.Node.was g.N.Node.next) g.N.Node.plain g.N.Node.bound l.work.until l.fn.lane
       l.lane;
-  few : l.left ≤ 4194304;
+  few : l.left ≤ 524288;
 }
 
 abbrev pub decreases-loop-left : goal.decreases-loop-left
-decreases-loop-left g l = (l.work.until - l.clock) * 4194305 + l.left
+decreases-loop-left g l = (l.work.until - l.clock) * 524289 + l.left
