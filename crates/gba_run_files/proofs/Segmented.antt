@@ -1,11 +1,11 @@
 -- The pieces of a run, segment by segment.
-use Rattle.std.proofs.Common.{subst, ◌≡◌, ℕ, zero, suc, ◌+◌, ◌-◌, ◌*◌, ◌<◌, ◌≤◌, ◌∙◌, Bool, true, false, not, nat_lt, min, List, [], ◌∷◌, ◌++◌, length, map, refl, sym, ap, arith}
+use Rattle.std.proofs.Common.{subst, ◌≡◌, ℕ, zero, suc, ◌+◌, ◌-◌, ◌*◌, ◌<◌, ◌≤◌, ◌∙◌, Bool, true, false, not, nat_lt, min, List, [], ◌∷◌, ◌++◌, length, map, Option, None, Some, IfSome, option_map, refl, sym, ap, arith}
 use Rattle.std.proofs.lemmas.Bool.Decides.{nat_tests}
 use Rattle.gba_console.specs.Machine.{Machine, forgotten}
 use Rattle.gba_joblog.specs.declared.outputs.PerKind.{PerKind}
 use Rattle.gba_session.specs.Session.{Consoles, advanced, is_over, resumed, segment_cut, segment_cycles, whole_cut}
 use Rattle.gba_run_files.specs.Pieces.{console_pieces, cut_pieces, growing_kinds, lasting_kinds, later_segments, left_pieces, run_pieces, segment_pieces}
-use Rattle.gba_run_files.specs.Ready.{IsLast, IsReady}
+use Rattle.gba_run_files.specs.Ready.{IsLast, IsReady, IsSegmentBefore}
 use Rattle.gba_run_files.specs.Written.{files_at}
 use Rattle.gba_output.specs.StateFile.{save_file, state_file}
 use Rattle.gba_snapshot.proofs.Forgetting.{state-forgotten}
@@ -34,6 +34,9 @@ next-segment most names s left = rw left refl
 
 early : (a b : ℕ) → a < b → nat_lt a b ≡ true
 early a b less = grind (arith, nat_tests, less)
+
+not-over : (a b : ℕ) → a < b → not (nat_lt a b) ≡ false
+not-over a b less = grind (arith, nat_tests, less)
 
 left-is : (a b : ℕ) → not (nat_lt a b) ≡ false → a < b
 left-is a b left = grind (arith, nat_tests, left)
@@ -153,3 +156,21 @@ pub begin-before : (job : WholeJob) (start : Cut Machine) (s : Consoles) → s �
     → s.to < s.until
 begin-before job start s is some =
     omega (arith, ap (λ (x : Consoles). x.to) is, ap (λ (x : Consoles). x.until) is, some)
+
+-- the digests of a session that has run another segment
+pub before-next : (o d : Option Consoles) (s t : Consoles) → d ≡ option_map (λ _. s) o → is_over s ≡ false
+    → t ≡ advanced s → IfSome d (IsSegmentBefore t)
+before-next None d s t is left next = subst (λ (o : Option Consoles). IfSome o (IsSegmentBefore t)) (sym is) tt
+before-next (Some before) d s t is left next =
+    subst (λ (o : Option Consoles). IfSome o (IsSegmentBefore t)) (sym is) (record { left = left; next = next })
+
+pub taken-again : (o d : Option Consoles) (s t : Consoles) → d ≡ option_map (λ _. s) o
+    → option_map (λ _. t) d ≡ option_map (λ _. t) o
+taken-again None d s t is = ap (option_map (λ _. t)) is
+taken-again (Some before) d s t is = ap (option_map (λ _. t)) is
+
+pub before-first : (d : Option Consoles) (s t : Consoles) → IfSome d (λ before. before ≡ s) → s.to < s.until
+    → t ≡ advanced s → IfSome d (IsSegmentBefore t)
+before-first None s t is left next = is
+before-first (Some before) s t is left next =
+    record { left = ap is_over is ∙ not-over s.to s.until left; next = next ∙ sym (ap advanced is) }

@@ -1,7 +1,7 @@
-use Rattle.std.specs.Prelude.{◌≡◌, ◌<◌, true, length, map}
+use Rattle.std.specs.Prelude.{◌≡◌, ◌<◌, false, true, length, map}
 use Rattle.gba_joblog.specs.Job.{WholeJob}
 use Rattle.gba_session.specs.Files.{asks_of}
-use Rattle.gba_session.specs.Session.{Consoles, is_over}
+use Rattle.gba_session.specs.Session.{Consoles, advanced, is_over}
 
 -- the consoles of a job of which no segment is run yet, and one is to be
 pub record IsReady (job : WholeJob) (s : Consoles) : Type 0 where
@@ -16,3 +16,8 @@ pub record IsLast (first last : Consoles) : Type 0 where
   pub start : last.start ≡ first.start
   pub until : last.until ≡ first.until
   pub asks : last.asks ≡ first.asks
+
+-- the consoles that one is of a segment later
+pub record IsSegmentBefore (s before : Consoles) : Type 0 where
+  pub left : is_over before ≡ false
+  pub next : s ≡ advanced before

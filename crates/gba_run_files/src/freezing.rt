@@ -120,6 +120,7 @@ impl PreparedFreeze {
             Some(name.as_str()),
             self.session,
             gate,
+            &mut None,
         )?;
         session.ends_whole();
         freeze(&mut text, &digest, session.cut());

@@ -22,7 +22,7 @@ use gba_command::{Cause, OutputFile, WriteStop, append, close_stopped, close_wri
 use gba_image::ConsoleImages;
 use gba_joblog::{Job, digest_of, digits_of};
 use gba_log::{print, printed_len};
-use gba_session::Session;
+use gba_session::{Digests, Session};
 use gba_store::{Gate, Sink};
 use gba_terms::NoMemory;
 use gba_text::{Line, add_text};
@@ -59,12 +59,14 @@ fn end_log(
     job: &mut Job,
     names: &[Names],
     session: &Session,
+    digests: &Digests,
     log: &mut Vec<u8>,
 ) -> Result<Line, Cause>
     requires sound { IsJob (job_value job.old) }
     requires names { length names.now ≡ length (job_value job.old).consoles }
     requires asks { session.now.asks ≡ map asks_of (job_value job.old).consoles }
     requires over { is_over session.now ≡ true }
+    requires digests { digests.now ≡ session.now }
     requires empty { log.old.items ≡ [] }
     requires room { length (log_text (job_value job.old)) + digests_room ≤ vec_capacity log.old }
     ensures log { log.new.items ≡ log_of (job_value job.old) (files_at (job_value job.old) (whole_cut session.now)) }
@@ -73,7 +75,7 @@ fn end_log(
         conclusion_value result
         ≡ conclusion cause (summary_lines (whole_cut session.now).consoles ++ log_line log.new.items) }
 {
-    let cause = state_consoles(job.consoles.as_mut_slice(), names, session);
+    let cause = state_consoles(job.consoles.as_mut_slice(), names, digests);
     print(job, log);
     let mut summary = session.summary();
     add_log_line(&mut summary, log.as_slice());
@@ -89,6 +91,7 @@ pub struct PreparedRun {
     log_name: String,
     job: Job,
     session: Session,
+    digests: Digests,
     log: Vec<u8>,
 }
 
@@ -113,7 +116,8 @@ impl Model for PreparedRun {
     ghost invariant = { λ p.
         IsJob (job_value p.job) × IsReady (job_value p.job) p.session
         × (length p.names.items ≡ length (job_value p.job).consoles) × (string_len p.log_name ≤ 200)
-        × (p.log.items ≡ []) × (length (log_text (job_value p.job)) + digests_room ≤ vec_capacity p.log) };
+        × (p.log.items ≡ []) × (length (log_text (job_value p.job)) + digests_room ≤ vec_capacity p.log)
+        × (p.digests ≡ p.session) };
 }
 
 impl PreparedRun {
@@ -148,12 +152,14 @@ impl PreparedRun {
         let log_name = log_name(alloc, out)?;
         let log = Vec::with_capacity(alloc, (printed_len(&job) + DIGESTS_ROOM) as usize)?;
         let session = Session::prepare(alloc, &job, images)?;
+        let digests = Digests::new(alloc, &session)?;
         Ok(PreparedRun {
             first,
             names,
             log_name,
             job,
             session,
+            digests,
             log,
         })
     }
@@ -176,6 +182,7 @@ impl PreparedRun {
         let log_name = self.log_name;
         let all_names = self.names;
         let names = all_names.as_slice();
+        let mut digests = Some(self.digests);
         let session = write_outputs(
             rt,
             alloc,
@@ -186,8 +193,12 @@ impl PreparedRun {
             Some(log_name.as_str()),
             self.session,
             gate,
+            &mut digests,
         )?;
-        let end = end_log(&mut job, names, &session, &mut log);
+        let Some(digests) = digests else {
+            unreachable!()
+        };
+        let end = end_log(&mut job, names, &session, &digests, &mut log);
         append(out, log_name.as_str(), log.as_slice())?;
         Ok(end)
     }

@@ -108,6 +108,7 @@ impl PreparedResume {
             None,
             self.session,
             gate,
+            &mut None,
         )?;
         Ok(Ok(session.summary()))
     }

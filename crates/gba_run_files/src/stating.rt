@@ -15,7 +15,7 @@ ghost use Rattle.gba_run_files.specs.Views.{names_value};
 use crate::names::Names;
 use gba_command::{Cause, name_in_report};
 use gba_joblog::{JobConsole, KINDS, OutKind, OutLine};
-use gba_session::Session;
+use gba_session::Digests;
 
 /// What comes of an output's digest: its line in the log, and the refusal where another one is stated.
 #[derive(Drop)]
@@ -40,25 +40,25 @@ fn difference(name: &str, stated: Option<[u8; 32]>, got: [u8; 32]) -> Option<Cau
 
 /// Takes the digest of an output that may be asked for.
 fn judge(
-    session: &Session,
+    digests: &Digests,
     player: usize,
     kind: OutKind,
     name: &String,
     asked: Option<OutLine>,
 ) -> Judged
-    requires player { player < length session.now.asks }
-    requires asks { (asks : PerKind Bool) → slice_get session.now.asks player ≡ Some asks
+    requires player { player < length digests.now.asks }
+    requires asks { (asks : PerKind Bool) → slice_get digests.now.asks player ≡ Some asks
         → at_kind asks kind ≡ is_some asked }
-    requires over { is_over session.now ≡ true }
+    requires over { is_over digests.now ≡ true }
     requires short { string_len name.now ≤ 200 }
-    ensures out { (m : Machine) → slice_get (whole_cut session.now).consoles player ≡ Some m
+    ensures out { (m : Machine) → slice_get (whole_cut digests.now).consoles player ≡ Some m
         → result.out ≡ stated_out asked (output_bytes kind m) }
-    ensures cause { (m : Machine) → slice_get (whole_cut session.now).consoles player ≡ Some m
+    ensures cause { (m : Machine) → slice_get (whole_cut digests.now).consoles player ≡ Some m
         → option_map cause_value result.cause ≡ output_differs (string_bytes name.now) asked (output_bytes kind m) }
 {
     match asked {
         Some(asked) => {
-            let got = session.digest(player, kind);
+            let got = digests.digest(player, kind);
             Judged {
                 out: Some(OutLine { digest: Some(got) }),
                 cause: difference(name.as_str(), asked.digest, got),
@@ -87,23 +87,23 @@ fn or_later(first: Option<Cause>, later: Option<Cause>) -> Option<Cause>
 fn state_console(
     console: &mut JobConsole,
     names: &Names,
-    session: &Session,
+    digests: &Digests,
     player: usize,
 ) -> Option<Cause>
-    requires asks { slice_get session.now.asks player ≡ Some (asks_of (console_value console.old)) }
-    requires over { is_over session.now ≡ true }
-    ensures console { (m : Machine) → slice_get (whole_cut session.now).consoles player ≡ Some m
+    requires asks { slice_get digests.now.asks player ≡ Some (asks_of (console_value console.old)) }
+    requires over { is_over digests.now ≡ true }
+    ensures console { (m : Machine) → slice_get (whole_cut digests.now).consoles player ≡ Some m
         → console_value console.new ≡ record (console_value console.old) {
           outs = outs_of (console_value console.old) (files_of (asks_of (console_value console.old)) m);
         } }
-    ensures cause { (m : Machine) → slice_get (whole_cut session.now).consoles player ≡ Some m
+    ensures cause { (m : Machine) → slice_get (whole_cut digests.now).consoles player ≡ Some m
         → option_map cause_value result ≡ console_difference (names_value names.now) (console_value console.old)
         (files_of (asks_of (console_value console.old)) m) }
 {
     let asked = console.outs;
     let mut cause = None;
     for kind in KINDS {
-        let judged = judge(session, player, kind, names.each.at(kind), *asked.at(kind));
+        let judged = judge(digests, player, kind, names.each.at(kind), *asked.at(kind));
         console.outs.put(kind, judged.out);
         cause = or_later(cause, judged.cause);
     }
@@ -114,20 +114,20 @@ fn state_console(
 pub(crate) fn state_consoles(
     consoles: &mut [JobConsole],
     names: &[Names],
-    session: &Session,
+    digests: &Digests,
 ) -> Option<Cause>
     requires names { length names.now ≡ length consoles.old }
-    requires asks { session.now.asks ≡ map asks_of (map console_value consoles.old) }
-    requires over { is_over session.now ≡ true }
+    requires asks { digests.now.asks ≡ map asks_of (map console_value consoles.old) }
+    requires over { is_over digests.now ≡ true }
     ensures consoles { map console_value consoles.new ≡ with_outputs (map console_value consoles.old)
-        (all_outs (map console_value consoles.old) (all_files session.now.asks (whole_cut session.now).consoles)) }
+        (all_outs (map console_value consoles.old) (all_files digests.now.asks (whole_cut digests.now).consoles)) }
     ensures cause { option_map cause_value result ≡ difference_of (map names_value names.now)
-        (map console_value consoles.old) (all_files session.now.asks (whole_cut session.now).consoles) }
-    ensures many { length (all_files session.now.asks (whole_cut session.now).consoles) ≡ length consoles.old }
+        (map console_value consoles.old) (all_files digests.now.asks (whole_cut digests.now).consoles) }
+    ensures many { length (all_files digests.now.asks (whole_cut digests.now).consoles) ≡ length consoles.old }
 {
     let mut cause = None;
-    for player in 0..session.players() {
-        let later = state_console(&mut consoles[player], &names[player], session, player);
+    for player in 0..digests.players() {
+        let later = state_console(&mut consoles[player], &names[player], digests, player);
         cause = or_later(cause, later);
     }
     cause

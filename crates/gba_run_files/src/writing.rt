@@ -16,14 +16,14 @@ use crate::names::Names;
 use crate::pieces::{append_last, append_segments};
 use gba_command::{OutputFile, WriteStop, append_files};
 use gba_joblog::Job;
-use gba_session::Session;
+use gba_session::{Digests, Session};
 use gba_store::{Gate, Sink};
 use std::alloc::Global;
 use std::thread::Threads;
 
 /// Runs the consoles and writes all files of a run but for the bytes of its last one, which is made empty with the
 /// others where there is one. The first segment is run before a file is made empty; the pieces of a segment are added
-/// before the next one is run.
+/// before the next one is run, and its digests are taken meanwhile where there are any.
 pub(crate) fn write_outputs<R: Threads + Sync, O: Sink, G: Gate + Sync>(
     rt: &R,
     alloc: Global,
@@ -34,10 +34,12 @@ pub(crate) fn write_outputs<R: Threads + Sync, O: Sink, G: Gate + Sync>(
     last: Option<&str>,
     session: Session,
     gate: &G,
+    digests: &mut Option<Digests>,
 ) -> Result<Session, WriteStop>
     requires sound { IsJob (job_value job.now) }
     requires ready { IsReady (job_value job.now) session }
     requires names { length names.now ≡ length (job_value job.now).consoles }
+    requires digests { IfSome digests.old (λ before. before ≡ session) }
     requires short { IfSome last (λ name. length name.now ≤ 200) }
     ensures calls { (files : List (PerKind (List ℕ))) (bytes : List ℕ)
         → length files ≡ length (job_value job.now).consoles
@@ -47,13 +49,16 @@ pub(crate) fn write_outputs<R: Threads + Sync, O: Sink, G: Gate + Sync>(
         ++ map addition (map output_value first.now ++ run_pieces (map names_value names.now) session))
         (O.state out.old) (O.state out.new) (write_end result) }
     ensures last { IfOk result (IsLast session) }
+    ensures digests { IfOk result (λ last. digests.new ≡ option_map (λ _. last) digests.old) }
 {
     let session = session.advance(rt, alloc, gate);
     let consoles = job.consoles.as_slice();
     create_all(out, first, names, consoles, last)?;
     append_files(out, first)?;
     let until = job.cycles;
-    let session = append_segments(rt, alloc, out, names, consoles, session, until, gate)?;
+    let session = append_segments(
+        rt, alloc, out, names, consoles, session, until, gate, digests,
+    )?;
     append_last(out, names, consoles, &session)?;
     Ok(session)
 }

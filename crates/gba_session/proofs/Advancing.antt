@@ -4,12 +4,12 @@ use Rattle.std.specs.List.{All}
 use Rattle.std.proofs.lemmas.List.{get_or-map, length-map, same_lists}
 use Rattle.gba_console.specs.Alone.{console_kind}
 use Rattle.gba_console.specs.Machine.{Machine, clock_of, without_limit}
-use Rattle.gba_console.specs.Segments.{LiveSegments, behind, forgotten_cut, joined}
-use Rattle.gba_session.proofs.Joining.{joined-forgotten, joined-get}
+use Rattle.gba_console.specs.Segments.{LiveSegments, forgotten_cut, joined}
+use Rattle.gba_session.proofs.Joining.{joined-forgotten}
 use Rattle.gba_session.proofs.SameRun.{run-many}
 use Rattle.gba_joblog.specs.declared.outputs.PerKind.{PerKind}
 use Rattle.gba_snapshot.proofs.Forgetting.{state-unlimited}
-use Rattle.gba_session.specs.Held.{CanRun, HasPieces, HasRoom, HaveTaken, IsHashed, IsSegmented, asks_in, session_value}
+use Rattle.gba_session.specs.Held.{CanRun, HasPieces, HasRoom, HaveTaken, IsSegmented, asks_in, session_value}
 use Rattle.gba_session.specs.Session.{Consoles, is_over, later_end, segment_cut}
 use Rattle.gba_session.specs.Start.{run_until}
 use Rattle.gba_session.specs.declared.player.Player.{Player}
@@ -54,10 +54,6 @@ plain-pieces over p m has = record {
   state = λ done asked. has.state done asked ∙ sym (state-unlimited m);
   save = has.save;
 }
-
-plain-hashed : (p : Player) (before m : Machine) → IsHashed p (behind before m)
-    → IsHashed p (behind before (without_limit m))
-plain-hashed p before m has = record { frames = has.frames; samples = has.samples; words = has.words }
 
 -- a console of some
 one-of : (ms : List Machine) → 0 < length ms → Machine
@@ -107,27 +103,11 @@ module _ (law : LiveSegments) (start : Cut Machine) (from to until : ℕ) (playe
         ran ∙ ap (λ (c : Cut Machine). run_until end (forgotten_cut c)) held.is
         ∙ goes-on law now held.start held.begun end
 
-    whole : run_until end start ≡ joined (run_until to start) (segment_cut then_)
-    unfolding then_
-    whole =
-        law start to end held.start.some_console held.start.delays held.start.sound
-        (omega (arith, early, is, later-end-after until to early))
-
     at : (k : ℕ) (m : Machine) → k < length later.consoles
         → get_or (segment_cut then_).consoles k m ≡ without_limit (get_or later.consoles k m)
     at k m within =
         ap (λ (c : Cut Machine). get_or c.consoles k m) (sym is-now)
         ∙ get_or-map without_limit later.consoles k m m within
-
-    whole-at : (k : ℕ) (m : Machine) → k < length later.consoles
-        → get_or (run_until end start).consoles k m
-        ≡ behind (get_or (run_until to start).consoles k m) (without_limit (get_or later.consoles k m))
-    unfolding then_
-    whole-at k m within =
-        ap (λ (c : Cut Machine). get_or c.consoles k m) whole
-        ∙ joined-get (run_until to start) (segment_cut then_) k m m
-        (omega (arith, within, ran-many, segment-many then_)) (omega (arith, within, ran-many, until-many to start))
-        ∙ ap (behind (get_or (run_until to start).consoles k m)) (at k m within)
 
     new-pieces : (k : ℕ) (p : Player) (m : Machine) → k < length new
         → HasPieces (is_over then_) (get_or new k p) (get_or (segment_cut then_).consoles k m)
@@ -138,16 +118,6 @@ module _ (law : LiveSegments) (start : Cut Machine) (from to until : ℕ) (playe
         let has = plain-pieces over (get_or new k p) (get_or later.consoles k m) (taken.each k p m p was).pieces in
         subst (λ (b : Bool). HasPieces b (get_or new k p) (get_or (segment_cut then_).consoles k m)) told
         (subst (HasPieces over (get_or new k p)) (sym (at k m there)) has)
-
-    new-hashed : (k : ℕ) (p : Player) (m : Machine) → k < length new
-        → IsHashed (get_or new k p) (get_or (run_until end start).consoles k m)
-    new-hashed k p m within =
-        let was : k < length players = omega (arith, within, taken.many) in
-        let there : k < length later.consoles = omega (arith, was, players-many) in
-        let before = get_or (run_until to start).consoles k m in
-        subst (IsHashed (get_or new k p)) (sym (whole-at k m there))
-        (plain-hashed (get_or new k p) before (get_or later.consoles k m)
-        ((taken.each k p m p was).hashed before (held.hashed k p m was)))
 
     new-rooms : All HasRoom new
     new-rooms k p within =
@@ -167,7 +137,6 @@ module _ (law : LiveSegments) (start : Cut Machine) (from to until : ℕ) (playe
       many = omega (arith, taken.many, players-many);
       rooms = new-rooms;
       pieces = new-pieces;
-      hashed = new-hashed;
     }
 
     same-asks : map asks_in new ≡ map asks_in players

@@ -2,7 +2,9 @@ pub mod Advancing
 pub mod Alone
 pub mod Asking
 pub mod Consoles
+pub mod Crossing
 pub mod Forgetting
+pub mod Hashing
 pub mod Joining
 pub mod Limits
 pub mod Summaries

@@ -8,18 +8,18 @@ use Rattle.gba_console.specs.Segments.{forgotten_cut}
 use Rattle.gba_image.specs.declared.images.ConsoleImages.{ConsoleImages}
 use Rattle.gba_joblog.specs.Job.{ConsoleJob, WholeJob}
 use Rattle.gba_joblog.specs.Soundness.{IsJob}
-use Rattle.gba_joblog.specs.declared.outputs.OutKind.TheVariants.{Frames, Samples, Words}
+use Rattle.gba_joblog.specs.declared.outputs.OutKind.TheVariants.{Words}
 use Rattle.gba_joblog.specs.declared.outputs.PerKind.{PerKind}
 use Rattle.gba_session.proofs.Consoles.{consoles-empty, made-length, start-cable, start-sound}
+use Rattle.gba_session.specs.Digests.{IsFresh}
 use Rattle.gba_session.specs.Files.{asks_of, output_bytes}
-use Rattle.gba_session.specs.Held.{CanRun, HasPieces, IsHashed, IsSegmented, IsUnused, asks_in, session_value}
+use Rattle.gba_session.specs.Held.{CanRun, HasPieces, IsSegmented, IsUnused, asks_in, session_value}
 use Rattle.gba_session.specs.Session.{Consoles, is_over, prepared, segment_cut}
 use Rattle.gba_session.specs.Start.{console_at, consoles_from, run_until, start_of}
 use Rattle.gba_session.specs.declared.player.Player.{Player}
 use Rattle.link_node.specs.declared.delays.Delays.{Delays}
 use Rattle.link_order.specs.Cut.{Cut, IsCable, IsSound, clock_at, live, opening, plain_cut}
 use Rattle.link_order.specs.GlobalOrder.{after_turns, cycles_left, least, run, step, trace_of}
-use Rattle.sha2.specs.Hashers.{Holds256}
 
 none-below : (n : ℕ) → nat_lt n 0 ≡ false
 none-below n = grind arith
@@ -40,6 +40,9 @@ no-run cut = ap (after_turns console_kind cut) (trace-none (cycles_left console_
 no-steps : (consoles : List Machine) (ds : Delays) → run_until 0 (opening consoles ds) ≡ opening consoles ds
 no-steps consoles ds = ap (live console_kind) (no-run (opening consoles ds))
 
+not-over-yet : (until : ℕ) → 1 ≤ until → not (nat_lt 0 until) ≡ false
+not-over-yet until some = grind (arith, some)
+
 -- what a console has made at reset
 pub reset-empty : (job : WholeJob) (images : List ConsoleImages) (k : ℕ) (m : Machine)
     → k < length (start_of job images).consoles
@@ -49,6 +52,18 @@ reset-empty job images k m within =
     ap (λ (c : Cut Machine). get_or c.consoles k m) (no-steps all job.delays)
     ∙ ap (λ (ms : List Machine). get_or ms k m) (sym (consoles-empty job 0 job.consoles images))
     ∙ get_or-map forgotten all k m m within
+
+-- a job's consoles at reset have made nothing, and have a segment to run
+pub prepared-fresh : (job : WholeJob) (images : List ConsoleImages) → IsJob job → IsFresh (prepared job images)
+prepared-fresh job images sound = record {
+  left = not-over-yet job.cycles sound.some_cycles;
+  empty = λ k m within.
+      let reset = no-steps (consoles_from job 0 job.consoles images) job.delays in
+      let at : get_or (run_until 0 (start_of job images)).consoles k m
+      ≡ forgotten (get_or (start_of job images).consoles k m) =
+      reset-empty job images k m (omega (arith, within, ap (λ (c : Cut Machine). length c.consoles) reset)) in
+      at ∙ sym (ap forgotten at);
+}
 
 plain-from : (job : WholeJob) (player : ℕ) (consoles : List ConsoleJob) (images : List ConsoleImages)
     → map without_limit (consoles_from job player consoles images) ≡ consoles_from job player consoles images
@@ -152,20 +167,6 @@ module _ (job : WholeJob) (images : List ConsoleImages) (made : List Machine) (p
         save = λ over. absurd (not-over job.cycles sound.some_cycles over);
       }
 
-  none-hashed : (k : ℕ) (p : Player) (m : Machine) → k < length players
-      → IsHashed (get_or players k p) (get_or (run_until 0 (start_of job images)).consoles k m)
-  none-hashed k p m within =
-      let has = unused k p within in
-      let at : get_or (run_until 0 (start_of job images)).consoles k m
-      ≡ forgotten (get_or (start_of job images).consoles k m) =
-      reset-empty job images k m (there-at k within) in
-      let one = get_or players k p in
-      record {
-        frames = subst (Holds256 one.frames_hasher) (sym (ap (output_bytes Frames) at)) has.frames_hasher;
-        samples = subst (Holds256 one.samples_hasher) (sym (ap (output_bytes Samples) at)) has.samples_hasher;
-        words = λ asked. subst (Holds256 one.words_hasher) (sym (ap (output_bytes Words) at)) has.words_hasher;
-      }
-
   begins-first : IsSegmented first cut players
   unfolding first
   begins-first = record {
@@ -178,7 +179,6 @@ module _ (job : WholeJob) (images : List ConsoleImages) (made : List Machine) (p
     many = many;
     rooms = λ k p within. (unused k p within).room;
     pieces = no-pieces;
-    hashed = none-hashed;
   }
 
   pub begins : IsSegmented (session_value (plain_cut without_limit snap) 0 0 job.cycles players) cut players

@@ -7,10 +7,10 @@ use Rattle.gba_console.specs.Machine.{Machine, clock_of, forgotten, without_limi
 use Rattle.gba_console.specs.Segments.{forgotten_cut}
 use Rattle.gba_joblog.specs.Job.{WholeJob}
 use Rattle.gba_joblog.specs.Soundness.{IsJob}
-use Rattle.gba_joblog.specs.declared.outputs.OutKind.TheVariants.{Frames, Samples, Words}
+use Rattle.gba_joblog.specs.declared.outputs.OutKind.TheVariants.{Words}
 use Rattle.gba_joblog.specs.declared.outputs.PerKind.{PerKind}
 use Rattle.gba_session.specs.Files.{asks_of, output_bytes}
-use Rattle.gba_session.specs.Held.{HasPieces, IsHashed, IsSegmented, IsUnused, asks_in, session_value}
+use Rattle.gba_session.specs.Held.{HasPieces, IsSegmented, IsUnused, asks_in, session_value}
 use Rattle.gba_session.specs.Session.{AreEmpty, Consoles, is_over, least_clock, resumed, segment_begin, segment_cut}
 use Rattle.gba_session.specs.Start.{run_until}
 use Rattle.gba_session.specs.declared.player.Player.{Player}
@@ -19,7 +19,6 @@ use Rattle.link_order.specs.Cut.{Cut, IsCable, IsSound, clock_at, count, live, p
 use Rattle.link_order.proofs.LiveRuns.{live_whole}
 use Rattle.link_order.proofs.Numbers.{least_is_least}
 use Rattle.link_order.specs.GlobalOrder.{after_turns, cycles_left, least, run, step, trace_of}
-use Rattle.sha2.specs.Hashers.{Holds256}
 
 -- no step begins where the least clock has come to the end
 none-below : (a b : ℕ) → b ≤ a → nat_lt a b ≡ false
@@ -116,19 +115,6 @@ module _ (job : WholeJob) (cut snap : Cut Machine) (players : List Player) (soun
         save = λ over. absurd (not-over begin job.cycles early over);
       }
 
-  none-hashed : (k : ℕ) (p : Player) (m : Machine) → k < length players
-      → IsHashed (get_or players k p) (get_or (run_until begin start).consoles k m)
-  none-hashed k p m within =
-      let has = unused k p within in
-      let at : get_or (run_until begin start).consoles k m ≡ forgotten (get_or start.consoles k m) =
-      ap (λ (c : Cut Machine). get_or c.consoles k m) stays ∙ empty-at k m within in
-      let one = get_or players k p in
-      record {
-        frames = subst (Holds256 one.frames_hasher) (sym (ap (output_bytes Frames) at)) has.frames_hasher;
-        samples = subst (Holds256 one.samples_hasher) (sym (ap (output_bytes Samples) at)) has.samples_hasher;
-        words = λ asked. subst (Holds256 one.words_hasher) (sym (ap (output_bytes Words) at)) has.words_hasher;
-      }
-
   all-late : All (λ (m : Machine). begin ≤ clock_of m) cut.consoles
   all-late k d within =
       let ms = cut.consoles in
@@ -150,7 +136,6 @@ module _ (job : WholeJob) (cut snap : Cut Machine) (players : List Player) (soun
     many = many;
     rooms = λ k p within. (unused k p within).room;
     pieces = no-pieces;
-    hashed = none-hashed;
   }
 
   start-is : plain_cut without_limit snap ≡ start

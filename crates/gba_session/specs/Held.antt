@@ -2,17 +2,14 @@ use Rattle.std.specs.Prelude.{ℕ, ◌≡◌, ◌*◌, ◌^◌, ◌<◌, ◌≤�
 use Rattle.std.specs.List.{All}
 use Rattle.gba_console.specs.Alone.{console_kind}
 use Rattle.gba_console.specs.Machine.{Machine, clock_of, without_limit}
-use Rattle.gba_console.specs.Segments.{behind}
-use Rattle.gba_joblog.specs.declared.outputs.OutKind.TheVariants.{Frames, Samples, Words, State, Save}
+use Rattle.gba_joblog.specs.declared.outputs.OutKind.TheVariants.{Words, State, Save}
 use Rattle.gba_joblog.specs.declared.outputs.PerKind.{PerKind}
 use Rattle.gba_session.specs.Files.{output_bytes}
 use Rattle.gba_session.specs.Session.{Consoles, is_over, segment_cut}
-use Rattle.gba_session.specs.Start.{run_until}
 use Rattle.gba_session.specs.declared.player.Player.{Player}
 use Rattle.link_order.specs.Cut.{Cut, HasDelays, IsSound, count, plain_cut}
-use Rattle.sha2.specs.Hashers.{Holds256}
 
--- What a session keeps beside its consoles: the outputs of the last segment, and hashers of all pieces so far.
+-- What a session keeps beside its consoles: the outputs of the last segment.
 
 -- the buffers of what a player is asked for have room for it: for the words of a segment's transfers, a
 -- state and a save
@@ -27,26 +24,16 @@ pub record HasPieces (over : Bool) (p : Player) (m : Machine) : Type 0 where
   pub state : over ≡ true → p.asks.state ≡ true → p.state.items ≡ output_bytes State m
   pub save : over ≡ true → p.asks.save ≡ true → p.save.items ≡ output_bytes Save m
 
--- the hashers hold what the lists of a console give
-pub record IsHashed (p : Player) (m : Machine) : Type 0 where
-  pub frames : Holds256 p.frames_hasher (output_bytes Frames m)
-  pub samples : Holds256 p.samples_hasher (output_bytes Samples m)
-  pub words : p.asks.words ≡ true → Holds256 p.words_hasher (output_bytes Words m)
-
--- nothing is written or hashed yet
+-- nothing is written yet
 pub record IsUnused (p : Player) : Type 0 where
   pub room : HasRoom p
   pub words : p.words.items ≡ []
-  pub frames_hasher : Holds256 p.frames_hasher []
-  pub samples_hasher : Holds256 p.samples_hasher []
-  pub words_hasher : Holds256 p.words_hasher []
 
--- a player's pieces were taken from a console: they are written, and hashed behind those that were hashed before
+-- a player's pieces were taken from a console
 pub record HasTaken (over : Bool) (old : Player) (m : Machine) (new : Player) : Type 0 where
   pub asks : new.asks ≡ old.asks
   pub room : HasRoom old → HasRoom new
   pub pieces : HasPieces over new m
-  pub hashed : (before : Machine) → IsHashed old before → IsHashed new (behind before m)
 
 -- the same of each player
 pub record HaveTaken (over : Bool) (old : List Player) (ms : List Machine) (new : List Player) : Type 0 where
@@ -80,5 +67,3 @@ pub record IsSegmented (s : Consoles) (cut : Cut Machine) (players : List Player
   pub rooms : All HasRoom players
   pub pieces : (k : ℕ) (p : Player) (m : Machine) → k < length players
       → HasPieces (is_over s) (get_or players k p) (get_or (segment_cut s).consoles k m)
-  pub hashed : (k : ℕ) (p : Player) (m : Machine) → k < length players
-      → IsHashed (get_or players k p) (get_or (run_until s.to s.start).consoles k m)

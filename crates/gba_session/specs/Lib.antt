@@ -1,3 +1,4 @@
+pub mod Digests
 pub mod Files
 pub mod Held
 pub mod Session

@@ -1,17 +1,14 @@
-//! What is kept of a player beside its console: the bytes of the last segment, and hashers of all pieces.
+//! What is kept of a player beside its console: the bytes of the last segment.
 
-ghost use Rattle.std.specs.Prelude.{ℕ, List, ◌≡◌, ◌*◌, ◌≤◌, [], IfOk, length, true, vec_capacity};
+ghost use Rattle.std.specs.Prelude.{◌≡◌, ◌*◌, ◌≤◌, [], IfOk, length, true, vec_capacity};
 ghost use Rattle.gba_output.specs.StateFile.{save_file, state_file};
 ghost use Rattle.gba_output.specs.TransferWords.{words_text};
-ghost use Rattle.sha2.specs.Hashers.{Holds256};
-ghost use Rattle.sha2.specs.Sha256.{sha256};
 
 use gba_console::Console;
 use gba_io::SEGMENT_WORDS;
 use gba_joblog::PerKind;
 use gba_output::{SAVE_ROOM, STATE_ROOM, WORDS_ROOM, write_save, write_state, write_words};
 use gba_serial::Transfer;
-use sha2::{Digest, Sha256};
 use std::alloc::{AllocError, Global};
 
 /// A buffer with room for so many bytes where they are asked for.
@@ -62,27 +59,13 @@ fn put_save(asked: bool, into: &mut Vec<u8>, console: &Console)
     }
 }
 
-/// The digest of what a hasher holds.
-pub(crate) fn digest_in(hasher: &Sha256) -> [u8; 32]
-    ensures { (message : List ℕ) → Holds256 hasher.now message → result ≡ sha256 message }
-{
-    match hasher.clone() {
-        Ok(hasher) => hasher.finalize(),
-        Err(_) => unreachable!(),
-    }
-}
-
-/// What a player is asked for, the bytes of the last segment that its console doesn't have itself, and hashers of all
-/// pieces so far.
+/// What a player is asked for, and the bytes of the last segment that its console doesn't have itself.
 #[derive(Drop)]
 pub(crate) struct Player {
     pub(crate) asks: PerKind<bool>,
     pub(crate) words: Vec<u8>,
     pub(crate) state: Vec<u8>,
     pub(crate) save: Vec<u8>,
-    pub(crate) frames_hasher: Sha256,
-    pub(crate) samples_hasher: Sha256,
-    pub(crate) words_hasher: Sha256,
 }
 
 impl Player {
@@ -99,9 +82,6 @@ impl Player {
             words: room_if(alloc, asks.words, SEGMENT_WORDS * WORDS_ROOM)?,
             state: room_if(alloc, asks.state, STATE_ROOM)?,
             save: room_if(alloc, asks.save, SAVE_ROOM)?,
-            frames_hasher: Sha256::new(),
-            samples_hasher: Sha256::new(),
-            words_hasher: Sha256::new(),
         })
     }
 
@@ -111,9 +91,6 @@ impl Player {
         ensures { HasTaken over self.old console.now self.new }
     {
         put_words(self.asks.words, &mut self.words, console.words());
-        self.words_hasher.update(self.words.as_slice());
-        self.frames_hasher.update(console.frames());
-        self.samples_hasher.update(console.samples());
         if over {
             put_state(self.asks.state, &mut self.state, console);
             put_save(self.asks.save, &mut self.save, console);

@@ -21,8 +21,8 @@ use std::thread::{Threads, for_each_mut};
 /// The most cycles of a segment.
 const SEGMENT: u64 = 16_777_216;
 
-/// So many bytes of an output are worth a thread's start: their digest takes some milliseconds.
-const MUCH: usize = 1 << 19;
+/// So many transfers are worth a thread's start: their lines take some milliseconds.
+const MANY_TRANSFERS: usize = 1 << 14;
 
 /// The end of the segment that begins at a clock: the next multiple of 2^24 cycles, or `until` where that comes first.
 pub fn later_end(until: u64, clock: u64) -> u64
@@ -165,13 +165,14 @@ fn take_side_by_side<R: Threads + Sync>(
     );
 }
 
-/// Whether a console has so many bytes of pictures or sound that a digest of them is worth a thread's start.
-fn has_much(console: &Console) -> bool {
-    console.frames().len() >= MUCH || console.samples().len() >= MUCH
+/// Whether so much is to be written for a player that it's worth a thread's start: many lines of words, or a state.
+fn has_much(player: &Player, console: &Console, over: bool) -> bool {
+    let words = player.asks.words && console.words().len() >= MANY_TRANSFERS;
+    words || over && player.asks.state
 }
 
 /// Takes the pieces of a segment from the consoles, and state and save where the run is over. Where much is to be
-/// hashed, and the gate has room for the consoles side by side, each is taken on a thread of its own.
+/// written, and the gate has room for the consoles side by side, each is taken on a thread of its own.
 pub(crate) fn take_pieces<R: Threads + Sync, G: Gate>(
     rt: &R,
     gate: &G,
@@ -184,7 +185,10 @@ pub(crate) fn take_pieces<R: Threads + Sync, G: Gate>(
     ensures { HaveTaken over players.old.items consoles.now players.new.items }
 {
     if players.len() > 1
-        && consoles.iter().any(|console| has_much(console))
+        && players
+            .iter()
+            .zip(consoles)
+            .any(|(player, console)| has_much(player, console, over))
         && gate.has_room(players.len())
     {
         take_side_by_side(rt, players.as_mut_slice(), consoles, over);

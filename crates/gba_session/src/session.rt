@@ -5,8 +5,9 @@ ghost use Rattle.std.specs.List.{flat_map};
 ghost use Rattle.arrayvec.specs.ArrayVec.{array_vec_len};
 ghost use Rattle.gba_console.specs.Machine.{without_limit};
 ghost use Rattle.gba_output.specs.StateFile.{summary_line};
+ghost use Rattle.gba_session.specs.Files.{grows as grows_of};
 
-use crate::player::{Player, digest_in};
+use crate::player::Player;
 use crate::running::{later_end, run_segment, segment_begin, take_pieces};
 use crate::starting::{players_of, start_cut};
 use gba_console::Console;
@@ -18,7 +19,6 @@ use gba_store::Gate;
 use gba_terms::NoMemory;
 use gba_text::Line;
 use link_core::Cut;
-use sha2::{Digest, Sha256};
 use std::alloc::Global;
 use std::marker::Model;
 use std::snapshot::Snapshot;
@@ -35,6 +35,13 @@ fn lines_of(consoles: &[Console]) -> Line
         add_summary(&mut lines, console);
     }
     lines
+}
+
+/// Whether an output is made piece by piece while the console runs.
+fn grows(kind: OutKind) -> bool
+    ensures { result ≡ grows_of kind }
+{
+    matches!(kind, OutKind::Frames | OutKind::Samples | OutKind::Words)
 }
 
 /// The consoles of a job on their cable, which run in segments, and the bytes of the last one. Contracts see the
@@ -74,12 +81,13 @@ impl Session {
     ghost use Rattle.gba_joblog.specs.Views.{job_value};
     ghost use Rattle.gba_joblog.specs.declared.outputs.PerKind.{PerKind};
     ghost use Rattle.gba_output.specs.StateFile.{summary_line};
+    ghost use Rattle.gba_console.specs.Segments.{joined};
+    ghost use Rattle.gba_session.specs.Digests.{IsFresh, has_piece as has_piece_of};
     ghost use Rattle.gba_session.specs.Files.{grows, output_bytes};
     ghost use Rattle.gba_session.specs.Session.{AreEmpty, advanced, is_over, later_end as end_after, prepared, resumed};
     ghost use Rattle.gba_session.specs.Session.{segment_cut, whole_cut};
-    ghost use Rattle.gba_session.specs.Start.{FitJob};
+    ghost use Rattle.gba_session.specs.Start.{FitJob, run_until};
     ghost use Rattle.link_order.specs.Cut.{plain_cut};
-    ghost use Rattle.sha2.specs.Sha256.{sha256};
 
     /// The consoles of a job at reset, with these images, one of the other: each for its console's backup, with a save
     /// that was checked for it. The changes of their keys stand in the job, those of key files too. All the memory is
@@ -91,7 +99,8 @@ impl Session {
     ) -> Result<Session, NoMemory>
         requires sound { IsJob (job_value job.now) }
         requires images { FitJob (job_value job.now) images.items }
-        ensures { IfOk result (λ session. session ≡ prepared (job_value job.now) images.items) }
+        ensures session { IfOk result (λ session. session ≡ prepared (job_value job.now) images.items) }
+        ensures fresh { IfOk result IsFresh }
     {
         let players = players_of(alloc, job)?;
         let cut = start_cut(alloc, job, images)?;
@@ -187,6 +196,15 @@ impl Session {
         &self.cut
     }
 
+    /// Whether a player has a piece of an output: it is asked for it, and the output grows or the run is over.
+    pub(crate) fn has_piece(&self, player: usize, kind: OutKind) -> bool
+        requires { player < length self.now.asks }
+        ensures { (asks : PerKind Bool) → slice_get self.now.asks player ≡ Some asks
+            → result ≡ has_piece_of (is_over self.now) asks kind }
+    {
+        *self.players[player].asks.at(kind) && (grows(kind) || self.finished())
+    }
+
     /// The bytes of an output that a player is asked for: of frames, samples and words those of the last segment, of
     /// state and save all, once the run is over.
     pub fn piece(&self, player: usize, kind: OutKind) -> &[u8]
@@ -205,22 +223,18 @@ impl Session {
         }
     }
 
-    /// The SHA-256 digest of all the bytes of an output that a player is asked for, once the run is over.
-    pub fn digest(&self, player: usize, kind: OutKind) -> [u8; 32]
-        requires player { player < length self.now.asks }
-        requires asked { (asks : PerKind Bool) → slice_get self.now.asks player ≡ Some asks → at_kind asks kind ≡ true }
-        requires over { is_over self.now ≡ true }
-        ensures { (m : Machine) → slice_get (whole_cut self.now).consoles player ≡ Some m
-            → result ≡ sha256 (output_bytes kind m) }
+    /// What the consoles have made so far is what they made before the last segment, and behind it what they made in that
+    /// one; and there are as many of them in each part of the run. It does nothing.
+    pub(crate) fn joins(&self)
+        ensures within { self.now.to ≤ self.now.until }
+        ensures segment { length (segment_cut self.now).consoles ≡ length self.now.asks }
+        ensures whole { length (whole_cut self.now).consoles ≡ length self.now.asks }
+        ensures so_far { length (run_until self.now.to self.now.start).consoles ≡ length self.now.asks }
+        ensures joined { run_until self.now.to self.now.start
+            ≡ joined (run_until self.now.from self.now.start) (segment_cut self.now) }
     {
         segments();
-        match kind {
-            OutKind::Frames => digest_in(&self.players[player].frames_hasher),
-            OutKind::Samples => digest_in(&self.players[player].samples_hasher),
-            OutKind::Words => digest_in(&self.players[player].words_hasher),
-            OutKind::State => Sha256::digest(self.players[player].state.as_slice()),
-            OutKind::Save => Sha256::digest(self.players[player].save.as_slice()),
-        }
+        let _last = self.to;
     }
 
     /// Once the run is over the consoles are those of the whole run, but for the lists that were emptied between

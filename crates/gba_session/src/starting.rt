@@ -91,7 +91,7 @@ fn console_of(
 }
 
 /// Keeps one more, as far as there is memory.
-fn keep<T: Drop>(all: &mut Vec<T>, one: T) -> Result<(), AllocError>
+pub(crate) fn keep<T: Drop>(all: &mut Vec<T>, one: T) -> Result<(), AllocError>
     ensures { OnOk result (all.new.items ≡ all.old.items ++ one ∷ []) }
 {
     match all.push(one) {

@@ -29,7 +29,7 @@ print-requires-clause-sound c =
     let asked : all_files c.args.session.now.asks ms ≡ made = ap (λ asks. all_files asks ms) c.requires.asks in
     let consoles : map console_value (with_items old new).items
     ≡ with_outputs job.consoles (all_outs job.consoles made) =
-    ap (map console_value) items ∙ c.state_consoles-cause.ensures.consoles
+    ap (map console_value) items ∙ (rw c.requires.digests at c.state_consoles-cause.ensures.consoles)
     ∙ ap (λ cs. with_outputs (map console_value cs)
     (all_outs (map console_value cs) (all_files c.args.session.now.asks ms))) cut_is
     ∙ ap (λ (files : List (PerKind (List ℕ))). with_outputs job.consoles (all_outs job.consoles files)) asked in
@@ -38,7 +38,7 @@ print-requires-clause-sound c =
     subst IsJob (sym whole) (logged-sound job made c.requires.sound
     (omega (
       arith,
-      c.state_consoles-cause.ensures.many,
+      (rw c.requires.digests at c.state_consoles-cause.ensures.many),
       ap length asked,
       ap length cut_is,
       length-map old.items console_value,
@@ -56,7 +56,7 @@ print-requires-clause-room c =
     let asked : all_files c.args.session.now.asks ms ≡ made = ap (λ asks. all_files asks ms) c.requires.asks in
     let consoles : map console_value (with_items old new).items
     ≡ with_outputs job.consoles (all_outs job.consoles made) =
-    ap (map console_value) items ∙ c.state_consoles-cause.ensures.consoles
+    ap (map console_value) items ∙ (rw c.requires.digests at c.state_consoles-cause.ensures.consoles)
     ∙ ap (λ cs. with_outputs (map console_value cs)
     (all_outs (map console_value cs) (all_files c.args.session.now.asks ms))) cut_is
     ∙ ap (λ (files : List (PerKind (List ℕ))). with_outputs job.consoles (all_outs job.consoles files)) asked in

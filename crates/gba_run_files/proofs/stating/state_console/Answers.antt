@@ -19,11 +19,11 @@ use Rattle.gba_run_files.proofs.stating.state_console.Goals as goal
 
 pub judge-judged-requires-clause-player : goal.judge-judged-requires-clause-player
 judge-judged-requires-clause-player c =
-    slice_get_within c.args.session.now.asks c.args.player (asks_of (console_value c.args.console.now)) c.requires.asks
+    slice_get_within c.args.digests.now.asks c.args.player (asks_of (console_value c.args.console.now)) c.requires.asks
 
 pub judge-judged-requires-clause-asks : goal.judge-judged-requires-clause-asks
 judge-judged-requires-clause-asks c = λ asks is.
-    asked-only c.args.session.now.asks c.args.player asks (console_value c.args.console.now)
+    asked-only c.args.digests.now.asks c.args.player asks (console_value c.args.console.now)
     (get_or all_kinds c.loop-kind.kind-index Frames) is c.requires.asks
     ∙ sym (ap (λ (o : Option OutLine). is_some o) c.at-in-loop-kind.ensures)
 

@@ -13,7 +13,7 @@ use Rattle.gba_run_files.proofs.stating.state_console.Given as goal
 -- the lines as far as they are stated, and the first difference so far
 abbrev pub invariant-loop-kind : goal.invariant-loop-kind
 invariant-loop-kind l =
-    (m : Machine) → slice_get (whole_cut l.fn.session).consoles l.fn.player ≡ Some m
+    (m : Machine) → slice_get (whole_cut l.fn.digests).consoles l.fn.player ≡ Some m
     → (record (console_value l.console) {
       outs = all_with (drop l.kind-index l.kind-items) (outs_of (console_value l.initial.console)
           (files_of (asks_of (console_value l.initial.console)) m)) l.console.outs;

@@ -15,9 +15,9 @@ use Rattle.gba_run_files.proofs.stating.state_consoles.Goals as goal
 
 pub state_console-later-requires-clause-asks : goal.state_console-later-requires-clause-asks
 state_console-later-requires-clause-asks c =
-    let asks = c.args.session.now.asks in
+    let asks = c.args.digests.now.asks in
     let names = map names_value c.args.names.now in
-    let files = all_files asks (whole_cut c.args.session.now).consoles in
+    let files = all_files asks (whole_cut c.args.digests.now).consoles in
     let old = map console_value c.args.consoles.now in
     let now = map console_value c.loop-player.consoles in
     let i = c.loop-player.player in
@@ -38,8 +38,8 @@ state_console-later-requires-clause-asks c =
 
 pub loop-player-preserved : goal.loop-player-preserved
 loop-player-preserved c =
-    let asks = c.args.session.now.asks in
-    let ms = (whole_cut c.args.session.now).consoles in
+    let asks = c.args.digests.now.asks in
+    let ms = (whole_cut c.args.digests.now).consoles in
     let names = map names_value c.args.names.now in
     let files = all_files asks ms in
     let old = map console_value c.args.consoles.now in
@@ -115,8 +115,8 @@ returns-clause-cause c =
 
 pub returns-clause-many : goal.returns-clause-many
 returns-clause-many c =
-    let asks = c.args.session.now.asks in
-    let ms = (whole_cut c.args.session.now).consoles in
+    let asks = c.args.digests.now.asks in
+    let ms = (whole_cut c.args.digests.now).consoles in
     omega (
       arith,
       files-long asks ms (omega (arith, c.players-player-end.ensures.asks, c.players-player-end.ensures.whole)),

@@ -11,5 +11,5 @@ use Rattle.gba_run_files.proofs.stating.state_consoles.Given as goal
 -- the consoles so far are stated
 abbrev pub invariant-loop-player : goal.invariant-loop-player
 invariant-loop-player l =
-    Stating (map names_value l.fn.names) (all_files l.fn.session.asks (whole_cut l.fn.session).consoles)
+    Stating (map names_value l.fn.names) (all_files l.fn.digests.asks (whole_cut l.fn.digests).consoles)
     (map console_value l.initial.consoles) (option_map cause_value l.cause) (map console_value l.consoles) l.player

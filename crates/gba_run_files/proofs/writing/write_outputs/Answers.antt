@@ -7,7 +7,7 @@ use Rattle.gba_command.specs.Views.{output_value, write_stop_value}
 use Rattle.gba_command.specs.Writing.{Output, PerformsAll, Wrote, addition, creation}
 use Rattle.gba_console.specs.Machine.{Machine}
 use Rattle.gba_joblog.specs.Views.{console_value, job_value}
-use Rattle.gba_run_files.proofs.Segmented.{advances, first-pieces, last-asks, last-whole}
+use Rattle.gba_run_files.proofs.Segmented.{advances, before-first, first-pieces, last-asks, last-whole}
 use Rattle.gba_run_files.proofs.WholeRun.{grown-added, stopped-creating, stopped-first, stopped-growing}
 use Rattle.gba_run_files.specs.Outputs.{last_output, outputs_of}
 use Rattle.gba_run_files.specs.Pieces.{cut_pieces, lasting_kinds, left_pieces, run_pieces}
@@ -15,6 +15,12 @@ use Rattle.gba_run_files.specs.Views.{names_value}
 use Rattle.gba_session.specs.Session.{Consoles, advanced, whole_cut}
 use Rattle.link_order.specs.Cut.{Cut}
 use Rattle.gba_run_files.proofs.writing.write_outputs.Goals as goal
+
+pub append_segments-requires-clause-before : goal.append_segments-requires-clause-before
+append_segments-requires-clause-before g c =
+    λ _ _.
+    before-first c.args.digests.now c.args.session c.advance-session.result c.requires.digests c.requires.ready.left
+    c.advance-session.ensures
 
 pub returns-in_err-create_all-clause-calls : goal.returns-in_err-create_all-clause-calls
 returns-in_err-create_all-clause-calls g c =

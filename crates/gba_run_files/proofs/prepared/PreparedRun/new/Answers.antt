@@ -12,15 +12,15 @@ invariant_of-result c =
     let names = c.in_ok-names.names.items in (
       c.requires.sound,
       record {
-        asks = ap (λ (s : Consoles). s.asks) c.in_ok-session.ensures;
-        until = ap (λ (s : Consoles). s.until) c.in_ok-session.ensures;
+        asks = ap (λ (s : Consoles). s.asks) c.in_ok-session.ensures.session;
+        until = ap (λ (s : Consoles). s.until) c.in_ok-session.ensures.session;
         left = omega (
           arith,
-          ap (λ (s : Consoles). s.to) c.in_ok-session.ensures,
-          ap (λ (s : Consoles). s.until) c.in_ok-session.ensures,
+          ap (λ (s : Consoles). s.to) c.in_ok-session.ensures.session,
+          ap (λ (s : Consoles). s.until) c.in_ok-session.ensures.session,
           c.requires.sound.some_cycles,
         );
-        many = ap (λ (s : Consoles). length s.start.consoles) c.in_ok-session.ensures
+        many = ap (λ (s : Consoles). length s.start.consoles) c.in_ok-session.ensures.session
             ∙ consoles-length (job_value c.args.job) 0 (job_value c.args.job).consoles c.args.images.items
             (fit-long (job_value c.args.job).consoles c.args.images.items c.requires.images);
       },
@@ -35,4 +35,5 @@ invariant_of-result c =
       c.in_ok-log_name.ensures.short,
       c.in_ok-log.ensures.items,
       omega (arith, c.in_ok-log.ensures.capacity, c.printed_len.ensures.value),
+      c.in_ok-digests.ensures,
     )
